@@ -28,9 +28,8 @@ use lib.ListN.{replicate}
 use Rattle.grammar.specs.Limits.{small, standard, large}
 use Rattle.grammar.specs.Names.{ascii_classes}
 use Rattle.grammar.specs.Kinds.{local, single_type}
-use Rattle.grammar.specs.Outcome.{given, refused}
-use Rattle.grammar.specs.Calls.{table_reads, document_reads, label_name, table_lets_in, table_is_of_kind}
-use Rattle.grammar.specs.Calls.{table_pages, document_sample, widened}
+use Rattle.std.specs.Prelude.{Ok, Err}
+use Rattle.grammar.specs.Calls.{table_reads, document_reads, label_name, table_lets_in, table_is_of_kind, table_pages, document_sample, widened}
 use Rattle.grammar.specs.declared.Source.TheVariants.{Table as a_table, Document as a_document}
 use Rattle.grammar.specs.declared.Format.TheVariants.{DocumentFile, XmlText}
 use Rattle.grammar.specs.Answers.{number_after}
@@ -69,19 +68,19 @@ def equation(case, refusal, value):
     classes = "ascii_classes" if case.classes == reference.ASCII else numbers(case.classes)
     fixed, work = f"{limits} {classes}", f"{limits}Work"
     text = "XmlText" if generate.is_text(case) else "DocumentFile"
-    refused = f"refused {REFUSALS.get(refusal)}"
+    refused = f"Err {REFUSALS.get(refusal)}"
     if call == 1:
         return "table_reads", f"number_after (table_reads {fixed} {a} {work}) ≡ {refusal}"
     if call == 2:
         return "document_reads", f"number_after (document_reads {fixed} {text} {a} {work}) ≡ {refusal}"
     if call == 3:
-        given = f"given (record {{ from = {value // 65536}; size = {value % 65536} }})"
+        given = f"Ok (record {{ from = {value // 65536}; size = {value % 65536} }})"
         return "label_name", f"label_name {fixed} {a} {case.label} {work} ≡ {refused if refusal else given}"
     if call in DECISIONS:
         name, kind = DECISIONS[call]
         inputs = f"{a} {text} {b}" if call == 4 else kind + a
-        return name, f"{name} {fixed} {inputs} {work} ≡ {refused if refusal else 'given ' + ('true' if value else 'false')}"
-    told = refused if refusal else "given " + numbers(generate.answer_of(case).written)
+        return name, f"{name} {fixed} {inputs} {work} ≡ {refused if refusal else 'Ok ' + ('true' if value else 'false')}"
+    told = refused if refusal else "Ok " + numbers(generate.answer_of(case).written)
     if call == generate.PAGES:
         return "table_pages", f"table_pages {fixed} {a} {lent} {work} ≡ {told}"
     if call == 7:
@@ -119,7 +118,7 @@ def main():
         program = ROOT / "tests/second_validator/generate.py"
         subprocess.run([sys.executable, program, "--write", copy, "--seed", str(args.seed)], check=True, stdout=subprocess.DEVNULL)
         shutil.copytree(ROOT / "crates/grammar", copy / "crates/grammar", ignore=shutil.ignore_patterns("must-fail", "proofs", "out"))
-        (copy / "crates.txt").write_text("grammar:\n")
+        (copy / "crates.txt").write_text("grammar: thiserror\n")
         proofs = copy / "crates/grammar/proofs"
         proofs.mkdir()
         texts, count = [], 0

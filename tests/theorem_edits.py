@@ -16,7 +16,6 @@ COMPUTED = ("PaperTheorem", "StageExamples")
 NOT_OF_THE_THEORY = {
     "children_of_201": "a number of the standard limits; the theorems are for all limits that agree",
     "nesting_of_33": "a number of the standard limits; the theorems are for all limits that agree",
-    "solidus_in_names": "which classes load; the theorems are for all classes",
     "a_bit_set_for_small_letters": "which names are equal; the theorems ask only that it is an equivalence",
 }
 
@@ -45,7 +44,7 @@ def copy_with(edit, copy):
             file.unlink()
         else:
             file.write_text(re.sub(rf"^pub mod ({'|'.join(COMPUTED)})\n", "", file.read_text(), flags=re.M))
-    (copy / "crates.txt").write_text("grammar:\ntheory: grammar\n")
+    (copy / "crates.txt").write_text("grammar: thiserror\ntheory: grammar\n")
     for file, old, new in pairs_of(edit):
         spec = copy / "crates/grammar" / file
         text = spec.read_text()

@@ -1,6 +1,6 @@
 pub mod FromPlaces
 pub mod ClassTable
-pub mod PlaceByPlace
+pub mod PassLaws
 pub mod LoadedClasses
 pub mod LetterLaws
 pub mod NameReading

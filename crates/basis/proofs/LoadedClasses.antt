@@ -1,10 +1,10 @@
 -- Whether classes load, rule by rule.
 use Prim.Native.Nat.{ℕ}
 use mathlib.Core.Bool.{Bool, true, false, not, ◌&&◌}
-use mathlib.Core.Path.{◌≡◌, sym, ◌∙◌, ap₂}
+use mathlib.Core.Path.{◌≡◌, sym, ◌∙◌, ap, ap₂}
 use lib.Dec.{eqb, leb}
 use lib.ListN.{length, get_or}
-use borrow.Author.Tests.{not-true, not-false}
+use borrow.Author.Tests.{eq-eqb, not-true, not-false}
 use Rattle.grammar.specs.Ascii.{ascii}
 use Rattle.grammar.specs.Lists.{any_pass, all_pass, numbers_below}
 use Rattle.grammar.specs.Names.{Classes, never_in_names, loads, Loads}
@@ -15,14 +15,23 @@ module _ (classes : Classes) where
   abbrev pub zero_at : ℕ → Bool
   zero_at b = eqb (get_or classes b 0) 0
 
-  pub by_rules : {sized each some low marks : Bool} → eqb (length classes) 256 ≡ sized → all_pass (λ c. leb c 2) classes ≡ each
-      → any_pass (λ c. eqb c 2) classes ≡ some → all_pass zero_at (numbers_below 0x21) ≡ low
-      → all_pass zero_at (ascii "()|,*+?!<>/=") ≡ marks → loads classes ≡ (sized && each && some && (low && marks))
+  -- the rules one by one
+  pub by_rules : loads classes
+      ≡ (eqb (length classes) 256 && all_pass (λ c. leb c 2) classes && any_pass (λ c. eqb c 2) classes
+      && (all_pass zero_at (numbers_below 0x21) && all_pass zero_at (ascii "()|,*+?!<>/=")))
   unfolding loads never_in_names
-  by_rules {sized} {each} {some} {low} {marks} a b c d e =
-      ap₂ (λ (x y : Bool). x && y)
-      (ap₂ (λ (x y : Bool). x && y) (ap₂ (λ (x y : Bool). x && y) a b) c)
-      (all_append zero_at (numbers_below 0x21) (ascii "()|,*+?!<>/=") ∙ ap₂ (λ (x y : Bool). x && y) d e)
+  by_rules =
+      ap (λ (t : Bool). eqb (length classes) 256 && all_pass (λ c. leb c 2) classes && any_pass (λ c. eqb c 2) classes && t)
+      (all_append zero_at (numbers_below 0x21) (ascii "()|,*+?!<>/="))
+
+  -- where all but the last holds, the last settles it
+  pub by_marks : length classes ≡ 256 → all_pass (λ c. leb c 2) classes ≡ true → any_pass (λ c. eqb c 2) classes ≡ true
+      → all_pass zero_at (numbers_below 0x21) ≡ true → all_pass zero_at (ascii "()|,*+?!<>/=") ≡ loads classes
+  by_marks sized each some low =
+      sym
+      (by_rules
+      ∙ ap₂ (λ (x y : Bool). x && y) (ap₂ (λ (x y : Bool). x && y) (ap₂ (λ (x y : Bool). x && y) (eq-eqb _ _ sized) each) some)
+      (ap (λ (x : Bool). x && all_pass zero_at (ascii "()|,*+?!<>/=")) low))
 
 -- what a test found
 pub does_load : (classes : Classes) {r : Bool} → r ≡ loads classes → not r ≡ false → Loads classes

@@ -9,28 +9,14 @@ use crate::names::class_of;
 fn none_above_two(classes: &[u8]) -> bool
     ensures { result ≡ all_pass (λ c. leb c 2) classes.now }
 {
-    let mut i: usize = 0;
-    while i < classes.len() {
-        if 2 < classes[i] {
-            return false;
-        }
-        i += 1;
-    }
-    true
+    classes.iter().all(|&class| class <= 2)
 }
 
 // At least one is 2.
 fn some_two(classes: &[u8]) -> bool
     ensures { result ≡ any_pass (λ c. eqb c 2) classes.now }
 {
-    let mut i: usize = 0;
-    while i < classes.len() {
-        if classes[i] == 2 {
-            return true;
-        }
-        i += 1;
-    }
-    false
+    classes.iter().any(|&class| class == 2)
 }
 
 // Each byte below `end` has 0.
@@ -38,14 +24,7 @@ fn zero_below(classes: &[u8], end: usize) -> bool
     requires { end ≤ length classes.now }
     ensures { result ≡ all_pass (λ b. eqb (get_or classes.now b 0) 0) (numbers_below end) }
 {
-    let mut b: usize = 0;
-    while b < end {
-        if classes[b] != 0 {
-            return false;
-        }
-        b += 1;
-    }
-    true
+    classes[..end].iter().all(|&class| class == 0)
 }
 
 // Each of these bytes has 0.
@@ -53,18 +32,11 @@ fn zero_for(classes: &[u8], bytes: &[u8]) -> bool
     requires { 256 ≤ length classes.now }
     ensures { result ≡ all_pass (λ b. eqb (get_or classes.now b 0) 0) bytes.now }
 {
-    let mut i: usize = 0;
-    while i < bytes.len() {
-        let class = class_of(classes, bytes[i]);
-        if class != 0 {
-            return false;
-        }
-        i += 1;
-    }
-    true
+    bytes.iter().all(|&b| class_of(classes, b) == 0)
 }
 
 // The classes load.
+#[tactic(auto, using(crate::proofs::LoadedClasses::by_rules))]
 pub fn classes_load(classes: &[u8]) -> bool
     ensures { result ≡ loads classes.now }
 {

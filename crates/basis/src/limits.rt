@@ -43,14 +43,13 @@ pub fn limits_of(size: Size) -> SizeLimits
 }
 
 // The size that a number stands for in calls from C: 0 the small one, 2 the large one, any other number the standard one.
+#[tactic(auto, unfolding(grammar::specs::LimitSets::size_numbered))]
 pub fn size_numbered(number: u32) -> Size
     ensures { result ≡ size_numbered number }
 {
-    if number == 0 {
-        return Size::Small;
+    match number {
+        0 => Size::Small,
+        2 => Size::Large,
+        _ => Size::Standard,
     }
-    if number == 2 {
-        return Size::Large;
-    }
-    Size::Standard
 }

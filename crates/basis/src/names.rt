@@ -2,15 +2,12 @@
 ghost use Rattle.std.specs.Prelude.{◌≡◌, ◌≤◌, eqb, length, get_or};
 ghost use Rattle.grammar.specs.Names.{is_name, is_capital, small_letter, same_name};
 
-use crate::numbers::wide;
-
 // The class of a byte.
 pub fn class_of(classes: &[u8], b: u8) -> u8
     requires { 256 ≤ length classes.now }
     ensures { result ≡ get_or classes.now b 0 }
 {
-    let i = wide(b);
-    classes[i]
+    classes[usize::from(b)]
 }
 
 // The first byte is of class 2, and no byte is of class 0.
@@ -18,35 +15,24 @@ pub fn is_name(classes: &[u8], s: &[u8]) -> bool
     requires { 256 ≤ length classes.now }
     ensures { result ≡ is_name classes.now s.now }
 {
-    if s.len() == 0 {
-        return false;
-    }
-    let first = class_of(classes, s[0]);
-    if first != 2 {
-        return false;
-    }
-    let mut i: usize = 1;
-    while i < s.len() {
-        let class = class_of(classes, s[i]);
-        if class == 0 {
-            return false;
+    match s.split_first() {
+        None => false,
+        Some((&first, rest)) => {
+            class_of(classes, first) == 2 && rest.iter().all(|&b| class_of(classes, b) != 0)
         }
-        i += 1;
     }
-    true
 }
 
 // A byte from A to Z.
+#[tactic(auto, unfolding(grammar::specs::Names::is_capital))]
 fn is_capital(b: u8) -> bool
     ensures { result ≡ is_capital b }
 {
-    if b < 65 {
-        return false;
-    }
-    b <= 90
+    65 <= b && b <= 90
 }
 
 // A to Z become a to z; every other byte stays.
+#[tactic(auto, unfolding(grammar::specs::Names::small_letter, grammar::specs::Names::is_capital))]
 fn small_letter(b: u8) -> u8
     ensures { result ≡ small_letter b }
 {
@@ -74,15 +60,5 @@ fn same_letter(a: u8, b: u8) -> bool
 pub fn same_name(a: &[u8], b: &[u8]) -> bool
     ensures { result ≡ same_name a.now b.now }
 {
-    if a.len() != b.len() {
-        return false;
-    }
-    let mut i: usize = 0;
-    while i < a.len() {
-        if !same_letter(a[i], b[i]) {
-            return false;
-        }
-        i += 1;
-    }
-    true
+    a.len() == b.len() && a.iter().zip(b).all(|(&x, &y)| same_letter(x, y))
 }

@@ -7,8 +7,8 @@ ghost use Rattle.grammar.specs.Lists.{is_in};
 ghost use Rattle.sets.specs.Sets.{member, put_all, HasJust, OthersKept};
 ghost use Rattle.built_sets.specs.Remainders.{remainders};
 
-use sets::four::Set4;
-use sets::words::{has, put, store};
+use sets::set::Set4;
+use sets::words::{has, put};
 
 // The membership test by value, alone.
 #[unsafe(no_mangle)]
@@ -28,15 +28,13 @@ pub extern "C" fn has_in_words(words: &[u32; 8], base: usize, k: usize) -> bool
 }
 
 // The set of the numbers.
+#[tactic(auto, using(crate::proofs::RemainderLaws::putting), unfolding(sets::specs::Sets::put_all))]
 fn built_set(numbers: &[usize]) -> Set4
     ensures { result.words ≡ put_all (replicate 4 0) 0 (remainders numbers.now) }
 {
     let mut set = Set4::empty();
-    let count = numbers.len();
-    let mut i: usize = 0;
-    while i < count {
-        set = set.with(numbers[i] % 128);
-        i += 1;
+    for n in numbers {
+        set = set.with(*n % 128);
     }
     set
 }
@@ -51,15 +49,13 @@ pub extern "C" fn built_by_value(numbers: &[usize], k: usize) -> bool
 }
 
 // Puts the numbers into the set at base.
+#[tactic(auto, using(crate::proofs::RemainderLaws::putting), unfolding(sets::specs::Sets::put_all))]
 fn put_all(words: &mut [u32], base: usize, numbers: &[usize])
     requires { base + 4 ≤ length words.old }
     ensures { words.new ≡ put_all words.old base (remainders numbers.now) }
 {
-    let count = numbers.len();
-    let mut i: usize = 0;
-    while i < count {
-        put(words, base, numbers[i] % 128);
-        i += 1;
+    for n in numbers {
+        put(words, base, *n % 128);
     }
 }
 
@@ -77,7 +73,7 @@ pub extern "C" fn built_in_words(
 {
     let at = base % 4;
     let none = Set4::empty();
-    store(words, at, none);
+    none.store(words, at);
     put_all(words, at, numbers);
     has(words, at, k % 128)
 }

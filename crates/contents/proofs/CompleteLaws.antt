@@ -35,8 +35,8 @@ use Rattle.theory.specs.Conditions.{Regular}
 use Rattle.theory.proofs.Lists.BoolLaws.{or_left, or_right, or_none, not_both, passes_or_fails}
 use Rattle.theory.proofs.Contents.CountedContents.{counted_proper}
 use Rattle.reader.specs.ExprAt.{◌up_to◌, expr_at}
-use Rattle.reader.specs.Extents.{proper_at}
-use Rattle.reader.specs.declared.expressions.Extent.TheVariants.{Nowhere, Upto}
+use Rattle.std.specs.Prelude.{None}
+use Rattle.reader.specs.Extents.{proper_at, upto}
 use Rattle.reader.proofs.ExprLaws.{same_placed, expr_kept, expr_written, expr_bytes, expr_forward}
 use Rattle.reader.proofs.ExtentLaws.{proper_yes, proper_no, proper_sequence, proper_choice, proper_first}
 use Rattle.operands.specs.Drafts.{Kept}
@@ -89,7 +89,7 @@ module _ (d : List ℕ) (c : Content) (last : ℕ) (stands : expr_at d 0 ≡ jus
       let w = expr_written d 0 c last stands in
       unfit_large c (one_long content_limit c (omega arith))
 
-  pub made_improper : Regular c → proper_at large part 0 ≡ Nowhere → content_too_large large c ≡ true
+  pub made_improper : Regular c → proper_at large part 0 ≡ None → content_too_large large c ≡ true
   unfolding large
   made_improper r e = go (passes_or_fails (ltb operand_limit (widest_choice c)))
     where
@@ -100,20 +100,20 @@ module _ (d : List ℕ) (c : Content) (last : ℕ) (stands : expr_at d 0 ≡ jus
           (not_both (counted_proper c large r.counted (ltb-false operand_limit (widest_choice c) t) r.below)
           (proper_no large part 0 e c last part_stands))
 
-  found : (next n : ℕ) → proper_at large part 0 ≡ Upto next n → (is_proper large c ≡ true) × (nesting c ≡ n)
+  found : (next n : ℕ) → proper_at large part 0 ≡ upto next n → (is_proper large c ≡ true) × (nesting c ≡ n)
   found next n e =
       let y = proper_yes large part 0 next n e in
       let same = same_placed (sym y.1 ∙ part_stands) in
       (ap (is_proper large) (sym same.0) ∙ y.2, ap nesting (sym same.0) ∙ y.3)
 
-  pub made_deep : (next n : ℕ) → proper_at large part 0 ≡ Upto next n → 32 < n → content_too_large large c ≡ true
+  pub made_deep : (next n : ℕ) → proper_at large part 0 ≡ upto next n → 32 < n → content_too_large large c ≡ true
   unfolding content_too_large large
   made_deep next n e h =
       let f = found next n e in
       or_left (ltb content_limit (length (content_bytes c)) || ltb nesting_limit (nesting c)) (ltb operand_limit (widest_choice c))
       (or_right (ltb content_limit (length (content_bytes c))) (ltb nesting_limit (nesting c)) (lt-ltb nesting_limit (nesting c) (omega arith)))
 
-  pub made_fine : (next n : ℕ) → proper_at large part 0 ≡ Upto next n → n ≤ nesting_limit → last ≤ content_limit → Stored d c last
+  pub made_fine : (next n : ℕ) → proper_at large part 0 ≡ upto next n → n ≤ nesting_limit → last ≤ content_limit → Stored d c last
   unfolding content_too_large large
   made_fine next n e h l =
       let f = found next n e in

@@ -11,12 +11,14 @@ use mathlib.Core.List.{List, [], ◌∷◌, ◌++◌, append_assoc, append-nil}
 use mathlib.Core.Path.{◌≡◌, refl, sym, ◌∙◌, ap, subst}
 use lib.ListN.{length}
 use lib.Dec.{eqb}
+use Rattle.std.specs.Prelude.{Err, Ok, Result}
 use Rattle.grammar.specs.Lists.{keep, joined_of, numbers_from, numbers_below}
 use Rattle.grammar.specs.Limits.{large, content_limit, nesting_limit}
 use Rattle.grammar.specs.Content.{Content, choice_of}
 use Rattle.grammar.specs.Size.{content_too_large}
 use Rattle.grammar.specs.Table.{Table}
 use Rattle.grammar.specs.Normalise.{pair_of}
+use Rattle.grammar.specs.declared.TooLarge.{TooLarge}
 use Rattle.theory.specs.Alternatives.{alts, one_content, only_if, gathered}
 use Rattle.theory.specs.Conditions.{Regular}
 use Rattle.theory.proofs.Lists.ListLaws.{keep_yes, keep_no}
@@ -26,9 +28,6 @@ use Rattle.union.specs.Rounds.{content_of_rule}
 use Rattle.union.specs.PairNumbers.{rule_numbered, contents_of_pair, contents_in}
 use Rattle.operands.specs.declared.drafts.OperandRow.{OperandRow}
 use Rattle.operands.specs.declared.drafts.Gathering.{Gathering}
-use Rattle.operands.specs.declared.drafts.Gathering.TheVariants.{TooLarge, Upto}
-use Rattle.contents.specs.declared.completing.ContentMade.{ContentMade}
-use Rattle.contents.specs.declared.completing.ContentMade.TheVariants as made
 use Rattle.operands.specs.Drafts.{headed_length, reaching, Row, Kept, TooWide, GathersIn}
 use Rattle.operands.specs.Notes.{Registered, register_length}
 use Rattle.contents.specs.Completing.{Made}
@@ -45,7 +44,7 @@ pub given_off : (xs : List Content) (on : Bool) → on ≡ false → only_if on 
 unfolding only_if
 given_off xs on e = ap (λ (b : Bool). only_if b xs) e
 
-pub given_as : {draft register : List ℕ} {row : OperandRow} {r : Gathering} (ds xs ys : List Content) → xs ≡ ys
+pub given_as : {draft register : List ℕ} {row : OperandRow} {r : Result Gathering TooLarge} (ds xs ys : List Content) → xs ≡ ys
     → GathersRegistered draft register row (gathered ds xs) r → GathersRegistered draft register row (gathered ds ys) r
 given_as {draft} {register} {row} {r} ds xs ys e g = subst (λ (l : List Content). GathersRegistered draft register row (gathered ds l) r) e g
 
@@ -114,7 +113,7 @@ module _ (give : ℕ → List Content) (n : ℕ) (row : OperandRow) where
               ∙ s.rest;
         }
 
-    module _ (h : i < n) (after register' : List ℕ) (r : Gathering)
+    module _ (h : i < n) (after register' : List ℕ) (r : Result Gathering TooLarge)
         (g : GathersRegistered after register' (reaching row count end) (gathered (gathered ds s.list) (give i)) r) where
       abbrev next_list : List Content
       next_list = s.list ++ give i
@@ -128,23 +127,23 @@ module _ (give : ℕ → List Content) (n : ℕ) (row : OperandRow) where
           ∙ ap (λ (l : List Content). s.list ++ l) (sym (rest_next i h))
           ∙ s.rest
 
-      pub so_far_wide : r ≡ TooLarge → (last register'' : List ℕ) (all : List Content) → joined_of give (numbers_below n) ≡ all
-          → GathersRegistered last register'' row (gathered ds all) TooLarge
+      pub so_far_wide : r ≡ Err (record {}) → (last register'' : List ℕ) (all : List Content) → joined_of give (numbers_below n) ≡ all
+          → GathersRegistered last register'' row (gathered ds all) (Err (record {}))
       unfolding GathersIn
       so_far_wide e last register'' all whole =
           record {
             gathers =
                 subst (λ (l : List Content). TooWide (row.limit - row.base) (gathered ds l)) (next_rest ∙ whole)
                 (wide_gathered (row.limit - row.base) ds next_list (rest_from (i + 1))
-                (subst (λ (x : Gathering). GathersIn after (reaching row count end) (gathered ds next_list) x) e next_gathers));
+                (subst (λ (x : Result Gathering TooLarge). GathersIn after (reaching row count end) (gathered ds next_list) x) e next_gathers));
             registered = λ u. no_upto u;
           }
 
-      pub so_far_next : {m c stop : ℕ} → r ≡ Upto m c stop → MergedSoFar ds after register' c stop (i + 1)
+      pub so_far_next : {m c stop : ℕ} → r ≡ Ok (record { next = m; count = c; end = stop }) → MergedSoFar ds after register' c stop (i + 1)
       unfolding GathersIn
       so_far_next {m} {c} {stop} e =
           let t : Row after row.base c (gathered ds next_list) stop × (stop ≤ row.limit) =
-          subst (λ (x : Gathering). GathersIn after (reaching row count end) (gathered ds next_list) x) e next_gathers in
+          subst (λ (x : Result Gathering TooLarge). GathersIn after (reaching row count end) (gathered ds next_list) x) e next_gathers in
           record {
             list = next_list;
             registered = subst (Registered register') (gather_more ds s.list (give i)) (g.registered e);
@@ -154,10 +153,10 @@ module _ (give : ℕ → List Content) (n : ℕ) (row : OperandRow) where
           }
 
     pub so_far_all : i ≡ n → (all : List Content) → joined_of give (numbers_below n) ≡ all
-        → GathersRegistered draft register row (gathered ds all) (Upto 0 count end)
+        → GathersRegistered draft register row (gathered ds all) (Ok (record { next = 0; count = count; end = end }))
     unfolding GathersIn
     so_far_all e all whole =
-        subst (λ (l : List Content). GathersRegistered draft register row (gathered ds l) (Upto 0 count end))
+        subst (λ (l : List Content). GathersRegistered draft register row (gathered ds l) (Ok (record { next = 0; count = count; end = end })))
         (sym (append-nil s.list) ∙ ap (λ (l : List Content). s.list ++ l) (sym (ap rest_from e ∙ rest_none)) ∙ s.rest ∙ whole)
         (record { gathers = (s.stand, s.fits); registered = λ u. s.registered })
 
@@ -204,23 +203,23 @@ module _ (of : ℕ → List ℕ) (u : Table) where
       ∙ sym (joined_twice (alts of) (contents_of_pair u) (keep set (numbers_below (length u.rules))))
 
 -- the content of all
-module _ (draft : List ℕ) (xs : List Content) (r : Gathering) (g : GathersIn draft content_row (gathered [] xs) r) where
-  pub made_wide : r ≡ TooLarge → (after : List ℕ) → Made after (one_content xs) made.TooLarge
+module _ (draft : List ℕ) (xs : List Content) (r : Result Gathering TooLarge) (g : GathersIn draft content_row (gathered [] xs) r) where
+  pub made_wide : r ≡ Err (record {}) → (after : List ℕ) → Made after (one_content xs) (Err (record {}))
   unfolding GathersIn Made
   made_wide e after =
       ap (λ (l : List Content). content_too_large large (one_content l)) (sym (append-nil xs))
-      ∙ too_large xs [] (subst (λ (x : Gathering). GathersIn draft content_row (gathered [] xs) x) e g)
+      ∙ too_large xs [] (subst (λ (x : Result Gathering TooLarge). GathersIn draft content_row (gathered [] xs) x) e g)
 
-  pub made_row : {m count end : ℕ} → r ≡ Upto m count end → Row draft 2 count (gathered [] xs) end
+  pub made_row : {m count end : ℕ} → r ≡ Ok (record { next = m; count = count; end = end }) → Row draft 2 count (gathered [] xs) end
   unfolding GathersIn
   made_row {m} {count} {end} e =
-      let t : Row draft 2 count (gathered [] xs) end × (end ≤ headed_length) = subst (λ (x : Gathering). GathersIn draft content_row (gathered [] xs) x) e g in
+      let t : Row draft 2 count (gathered [] xs) end × (end ≤ headed_length) = subst (λ (x : Result Gathering TooLarge). GathersIn draft content_row (gathered [] xs) x) e g in
       t.0
 
-  abbrev pub made_kept : {m count end : ℕ} → r ≡ Upto m count end → Kept draft 2 count end
+  abbrev pub made_kept : {m count end : ℕ} → r ≡ Ok (record { next = m; count = count; end = end }) → Kept draft 2 count end
   made_kept e = record { list = gathered [] xs; row = made_row e }
 
-pub made_so : (draft : List ℕ) (xs : List Content) (r : ContentMade)
+pub made_so : (draft : List ℕ) (xs : List Content) (r : Result ℕ TooLarge)
     → (Regular (choice_of (gathered [] xs)) → Made draft (choice_of (gathered [] xs)) r)
     → Regular (one_content xs) → Made draft (one_content xs) r
 made_so draft xs r f q =

@@ -9,11 +9,13 @@ use mathlib.Core.List.{List}
 use mathlib.Core.Path.{◌≡◌, sym, ◌∙◌, ap, ap₂, subst}
 use lib.ListN.{length, get_or, take, drop, length-take, length-drop}
 use lib.Seq.{get_or-take, get_or-drop}
+use Rattle.std.specs.Prelude.{Ok, Err, Result}
 use Rattle.grammar.specs.Limits.{large, nesting_limit}
 use Rattle.grammar.specs.Content.{Content, nesting}
 use Rattle.grammar.specs.Table.{Rule, Table}
 use Rattle.grammar.specs.Unite.{shifted}
 use Rattle.grammar.specs.Normalise.{pair_of}
+use Rattle.grammar.specs.declared.TooLarge.{TooLarge}
 use Rattle.theory.specs.Alternatives.{alts, some_left, gathered}
 use Rattle.theory.proofs.Lists.ListLaws.{at_mem, at_else}
 use Rattle.theory.proofs.Emission.AlternativeLaws.{alts_renamed}
@@ -27,7 +29,6 @@ use Rattle.union.proofs.ViewLaws.{content_is, seen}
 use Rattle.contents.specs.declared.joining.ResultTypes.{ResultTypes}
 use Rattle.operands.specs.declared.drafts.OperandRow.{OperandRow}
 use Rattle.operands.specs.declared.drafts.Gathering.{Gathering}
-use Rattle.operands.specs.declared.drafts.Gathering.TheVariants.{TooLarge, Upto}
 use Rattle.operands.specs.Drafts.{Gathers, GathersWith, GathersIn}
 use Rattle.operands.specs.Notes.{Registered}
 use Rattle.emitting.specs.Emitting.{Maps, Source}
@@ -65,13 +66,13 @@ part_long words e =
     omega arith
 
 -- an answer of the emitter
-gathers_in : (d d' : List ℕ) (row : OperandRow) (next : ℕ) (ds : List Content) (r : Gathering)
+gathers_in : (d d' : List ℕ) (row : OperandRow) (next : ℕ) (ds : List Content) (r : Result Gathering TooLarge)
     → Gathers d d' row.base row.end row.limit next ds r → GathersIn d' row ds r
 unfolding Gathers GathersIn
-gathers_in d d' row next ds TooLarge g = g
-gathers_in d d' row next ds (Upto m count end) g = (g.1.row, g.1.fits)
+gathers_in d d' row next ds (Err over) g = g
+gathers_in d d' row next ds (Ok got) g = (g.1.row, g.1.fits)
 
-pub gathers_registered : {d d' : List ℕ} {row : OperandRow} {next : ℕ} {register : List ℕ} {ds : List Content} {r : Gathering}
+pub gathers_registered : {d d' : List ℕ} {row : OperandRow} {next : ℕ} {register : List ℕ} {ds : List Content} {r : Result Gathering TooLarge}
     → GathersWith (Registered register) d d' row next ds r → GathersRegistered d' register row ds r
 gathers_registered {d} {d'} {row} {next} {ds = ds} {r = r} g =
     record { gathers = gathers_in d d' row next ds r g.gathers; registered = g.noted }
@@ -129,7 +130,7 @@ module _ {old add : List ℕ} {v : United} {results : ResultTypes} (q : Joining 
               deep = let d = deep in let w = k.deep in omega arith;
             }
 
-        pub old_gives : (after register' : List ℕ) (r : Gathering)
+        pub old_gives : (after register' : List ℕ) (r : Result Gathering TooLarge)
             → GathersRegistered after register' row
             (gathered k.kept.list (alts (list_of_type results.lists.old.from results.lists.old.numbers) rule.content)) r
             → GathersRegistered after register' row (gathered k.kept.list (alts q.of (content_of_rule q.table i))) r
@@ -171,7 +172,7 @@ module _ {old add : List ℕ} {v : United} {results : ResultTypes} (q : Joining 
               deep = let d = source_deep in let w = k.deep in omega arith;
             }
 
-        pub added_gives : (after register' : List ℕ) (r : Gathering)
+        pub added_gives : (after register' : List ℕ) (r : Result Gathering TooLarge)
             → GathersRegistered after register' row
             (gathered k.kept.list (alts (list_of_type results.lists.addition.from results.lists.addition.numbers) added_rule.source)) r
             → GathersRegistered after register' row (gathered k.kept.list (alts q.of (content_of_rule q.table i))) r

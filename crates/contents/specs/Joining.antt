@@ -1,16 +1,16 @@
 -- What joining the contents of a union's rules is given, and what gathering them answers.
-use Rattle.std.specs.Prelude.{ℕ, ◌+◌, ◌*◌, ◌≤◌, ◌<◌, ◌≡◌, length}
+use Rattle.std.specs.Prelude.{ℕ, ◌+◌, ◌*◌, ◌≤◌, ◌<◌, ◌≡◌, length, Ok, Result}
 use mathlib.Core.List.{List, Memᴰ}
 use Rattle.grammar.specs.Limits.{content_limit, nesting_limit}
 use Rattle.grammar.specs.Content.{Content, nesting}
 use Rattle.grammar.specs.Table.{Rule, Table}
+use Rattle.grammar.specs.declared.TooLarge.{TooLarge}
 use Rattle.theory.specs.Alternatives.{some_left}
 use Rattle.sets.specs.Sets.{member}
 use Rattle.union.specs.declared.united.United.{United}
 use Rattle.union.specs.View.{Views}
 use Rattle.union.specs.TypeLists.{ListsOf}
 use Rattle.operands.specs.declared.drafts.Gathering.{Gathering}
-use Rattle.operands.specs.declared.drafts.Gathering.TheVariants.{Upto}
 use Rattle.operands.specs.declared.drafts.OperandRow.{OperandRow}
 use Rattle.contents.specs.declared.joining.ResultTypes.{ResultTypes}
 use Rattle.operands.specs.Drafts.{headed_length, Kept, GathersIn}
@@ -44,6 +44,6 @@ abbrev pub content_row : OperandRow
 content_row = record { base = 2; count = 0; end = 2; limit = headed_length }
 
 -- these operands stand there, and they are registered; or they do not fit
-pub record GathersRegistered (draft register : List ℕ) (row : OperandRow) (ds : List Content) (r : Gathering) : Type 0 where
+pub record GathersRegistered (draft register : List ℕ) (row : OperandRow) (ds : List Content) (r : Result Gathering TooLarge) : Type 0 where
   pub gathers : GathersIn draft row ds r
-  pub registered : {next count end : ℕ} → r ≡ Upto next count end → Registered register ds
+  pub registered : {g : Gathering} → r ≡ Ok g → Registered register ds

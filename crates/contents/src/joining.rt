@@ -14,12 +14,12 @@ ghost use Rattle.emitting.specs.Emitting.{Source};
 ghost use Rattle.contents.specs.Completing.{Made};
 ghost use Rattle.contents.specs.Joining.{Joining, Ready, content_row, GathersRegistered};
 
-use crate::completing::{ContentMade, complete};
-use basis::numbers::{wide, wider};
+use crate::completing::complete;
 use emitting::emitter::gather;
+use grammar::TooLarge;
 use operands::drafts::{Gathering, OperandRow};
 use operands::limits::{HEAD, HEADED, REGISTER};
-use sets::eight::Set8;
+use sets::set::Set8;
 use union::lists::{Lists, TypeLists};
 use union::united::United;
 
@@ -38,7 +38,7 @@ fn gather_content(
     draft: &mut [u8],
     row: OperandRow,
     register: &mut [u32],
-) -> Gathering
+) -> Result<Gathering, TooLarge>
     requires { (q : Source content.now 0 types.now lists.from lists.numbers draft.old row (length register.old))
         × Registered register.old q.kept.list }
     ensures { (q : Source content.now 0 types.now lists.from lists.numbers draft.old row
@@ -61,7 +61,7 @@ fn gather_rule(
     draft: &mut [u8],
     row: OperandRow,
     register: &mut [u32],
-) -> Gathering
+) -> Result<Gathering, TooLarge>
     requires { Joining old.now add.now v results × (i < v.rules) × Ready draft.old register.old row }
     ensures { (q : Joining old.now add.now v results)
         (k : Ready draft.old register.old row)
@@ -70,8 +70,8 @@ fn gather_rule(
 {
     let content_from = v.content_from;
     let content_to = v.content_to;
-    let from = wider(content_from[i]);
-    let to = wider(content_to[i]);
+    let from = usize::from(content_from[i]);
+    let to = usize::from(content_to[i]);
     let words = results.types.words;
     let lists = results.lists;
     if i < v.old_rules {
@@ -97,7 +97,7 @@ fn gather_pair(
     draft: &mut [u8],
     row: OperandRow,
     register: &mut [u32],
-) -> Gathering
+) -> Result<Gathering, TooLarge>
     requires { Joining old.now add.now v results × Ready draft.old register.old row }
     ensures { (q : Joining old.now add.now v results)
         (k : Ready draft.old register.old row)
@@ -108,10 +108,8 @@ fn gather_pair(
     let rules = v.rules;
     let mut count = row.count;
     let mut end = row.end;
-    let mut i: usize = 0;
-    while i < rules {
-        if wide(firsts[i]) != p {
-            i += 1;
+    for i in 0..rules {
+        if usize::from(firsts[i]) != p {
             continue;
         }
         let so_far = OperandRow {
@@ -120,23 +118,15 @@ fn gather_pair(
             end,
             limit: row.limit,
         };
-        match gather_rule(old, add, v, i, results, draft, so_far, register) {
-            Gathering::TooLarge => {
-                return Gathering::TooLarge;
-            }
-            Gathering::Upto {
-                next: _,
-                count: more,
-                end: fresh,
-            } => {
-                count = more;
-                end = fresh;
-            }
-        }
-        i += 1;
+        let gathered = gather_rule(old, add, v, i, results, draft, so_far, register)?;
+        count = gathered.count;
+        end = gathered.end;
     }
-    let next = 0;
-    Gathering::Upto { next, count, end }
+    Ok(Gathering {
+        next: 0,
+        count,
+        end,
+    })
 }
 
 // Gathers what the contents of the pairs of a set give.
@@ -147,7 +137,7 @@ fn gather_set(
     set: Set8,
     results: ResultTypes,
     draft: &mut [u8],
-) -> Gathering
+) -> Result<Gathering, TooLarge>
     requires { Joining old.now add.now v results × (draft_length ≤ length draft.old) }
     ensures { (q : Joining old.now add.now v results)
         → GathersIn draft.new content_row
@@ -157,10 +147,8 @@ fn gather_set(
     let mut register = [0u32; REGISTER];
     let mut count = 0usize;
     let mut end = HEAD;
-    let mut p: usize = 0;
-    while p < rules {
+    for p in 0..rules {
         if !set.has(p) {
-            p += 1;
             continue;
         }
         let so_far = OperandRow {
@@ -169,23 +157,15 @@ fn gather_set(
             end,
             limit: HEADED,
         };
-        match gather_pair(old, add, v, p, results, draft, so_far, &mut register) {
-            Gathering::TooLarge => {
-                return Gathering::TooLarge;
-            }
-            Gathering::Upto {
-                next: _,
-                count: more,
-                end: fresh,
-            } => {
-                count = more;
-                end = fresh;
-            }
-        }
-        p += 1;
+        let gathered = gather_pair(old, add, v, p, results, draft, so_far, &mut register)?;
+        count = gathered.count;
+        end = gathered.end;
     }
-    let next = 0;
-    Gathering::Upto { next, count, end }
+    Ok(Gathering {
+        next: 0,
+        count,
+        end,
+    })
 }
 
 // Makes the content of a set of pairs at the front of the draft.
@@ -196,18 +176,12 @@ pub fn content_of_set(
     set: Set8,
     results: ResultTypes,
     draft: &mut [u8],
-) -> ContentMade
+) -> Result<usize, TooLarge>
     requires { Joining old.now add.now v results × (draft_length ≤ length draft.old) }
     ensures { (q : Joining old.now add.now v results)
         → Regular (one_content (joined_of (alts q.of) (contents_in q.table (member set.words 0))))
         → Made draft.new (one_content (joined_of (alts q.of) (contents_in q.table (member set.words 0)))) result }
 {
-    match gather_set(old, add, v, set, results, draft) {
-        Gathering::TooLarge => ContentMade::TooLarge,
-        Gathering::Upto {
-            next: _,
-            count,
-            end,
-        } => complete(draft, count, end),
-    }
+    let gathered = gather_set(old, add, v, set, results, draft)?;
+    complete(draft, gathered.count, gathered.end)
 }

@@ -7,31 +7,30 @@ use lib.ListN.{length}
 use Rattle.grammar.specs.Limits.{Limits}
 use Rattle.grammar.specs.Names.{Classes, loads, Loads}
 use Rattle.grammar.specs.Tree.{Tree}
-use Rattle.grammar.specs.Outcome.{Outcome, refused}
+use Rattle.std.specs.Prelude.{Result, Err}
+use Rattle.grammar.specs.declared.Refusal.{Refusal}
 use Rattle.grammar.specs.Answers.{reading_numbers, numbers_of, reading}
 use Rattle.grammar.specs.Documents.{read_document}
 use Rattle.grammar.specs.declared.Format.{Format}
 use Rattle.grammar.specs.Calls.{work_after, after, document_reads}
 use Rattle.grammar.specs.Promises.{DocumentReading}
 use Rattle.grammar.specs.declared.Refusal.TheVariants.{WorkTooShort, BadClasses}
-use Rattle.grammar.specs.declared.Reading.{Reading}
-use Rattle.grammar.specs.declared.Reading.TheVariants.{Refused as Unreadable}
 use Rattle.theory.proofs.Theorems.AnswerNumbers.{reading_numbers_lem}
 use Rattle.theory.proofs.Theorems.CallPromises.{lent_short, lent_enough, loaded, loaded_is, unloaded_is}
 use Rattle.reader.proofs.CallLaws.{left_as, left_short}
-use Rattle.documents.specs.declared.documents.DocumentRead.{DocumentRead}
+use Rattle.documents.specs.declared.documents.DocumentIndex.{DocumentIndex}
 use Rattle.documents.specs.DocumentNodes.{DocumentReads}
 use Rattle.documents.proofs.DocumentAnswers.{document_answer}
 
 module _ (lim : Limits) (classes : Classes) (format : Format) (document work : List ℕ) where
   pub document_unanswered : length work < lim.words
-      → DocumentReading lim classes format document work (after (reading_numbers (Unreadable WorkTooShort)) [] work)
+      → DocumentReading lim classes format document work (after (reading_numbers (Err WorkTooShort)) [] work)
   unfolding document_reads reading_numbers
   document_unanswered h =
       record { settled = left_short lim (λ d. 1) _ work h (lent_short lim work (loaded classes (read_document lim classes format document)) h) }
 
   module _ (h : lim.words ≤ length work) (left : List ℕ) (w : left ≡ work_after lim work) where
-    document_told : (o : Outcome Tree) → loaded classes (read_document lim classes format document) ≡ o → (answer : Reading) → answer ≡ reading o
+    document_told : (o : Result Tree Refusal) → loaded classes (read_document lim classes format document) ≡ o → (answer : Result (Unit {0}) Refusal) → answer ≡ reading o
         → DocumentReading lim classes format document work (after (reading_numbers answer) [] left)
     unfolding document_reads
     document_told o e answer a =
@@ -45,11 +44,13 @@ module _ (lim : Limits) (classes : Classes) (format : Format) (document work : L
         }
 
     pub document_unloaded : loads classes ≡ false
-        → DocumentReading lim classes format document work (after (reading_numbers (Unreadable BadClasses)) [] left)
+        → DocumentReading lim classes format document work (after (reading_numbers (Err BadClasses)) [] left)
     unfolding reading
-    document_unloaded e = document_told (refused BadClasses) (unloaded_is classes _ e) (Unreadable BadClasses) refl
+    document_unloaded e = document_told (Err BadClasses) (unloaded_is classes _ e) (Err BadClasses) refl
 
-    pub document_answered : Loads classes → (r : DocumentRead) → DocumentReads lim classes format document r
-        → DocumentReading lim classes format document work (after (reading_numbers r.answer) [] left)
-    document_answered load r d =
-        document_told (read_document lim classes format document) (loaded_is classes _ load) r.answer (sym (document_answer lim classes format document r d))
+    pub document_answered : Loads classes → (ix : DocumentIndex) (answer : Result (Unit {0}) Refusal)
+        → DocumentReads lim classes format document ix answer
+        → DocumentReading lim classes format document work (after (reading_numbers answer) [] left)
+    document_answered load ix answer d =
+        document_told (read_document lim classes format document) (loaded_is classes _ load) answer
+        (sym (document_answer lim classes format document ix answer d))

@@ -10,12 +10,14 @@ use mathlib.Core.Path.{◌≡◌, refl, sym, ◌∙◌, ap, ap₂}
 use lib.Dec.{eqb, leb, ltb, eqb-suc-zero}
 use lib.ListN.{length, get_or, take, drop, length-drop}
 use lib.Seq.{slice, slice_empty, slice-cons, length-take-le}
-use borrow.Author.Tests.{leb-true, leb-false, ltb-false, eqb-false, eq-eqb, ne_eqb, le-leb, lt-leb}
+use borrow.Author.Tests.{leb-true, leb-false, ltb-false, eqb-false, le-leb, lt-leb}
 use Rattle.grammar.specs.Limits.{Limits}
 use Rattle.grammar.specs.Names.{Classes, is_name}
 use Rattle.grammar.specs.Fields.{Field, Fields, ◌then◌, fields_of}
 use Rattle.grammar.specs.Tree.{Head}
-use Rattle.grammar.specs.Outcome.{Outcome, given, refused, ◌>>=◌, ◌>>◌, turn_back}
+use Rattle.std.specs.Prelude.{Result, Ok, Err}
+use Rattle.grammar.specs.Outcome.{◌>>=◌, ◌>>◌, turn_back}
+use Rattle.grammar.specs.declared.Refusal.{Refusal}
 use Rattle.grammar.specs.ReadTable.{is_empty, bytes_left}
 use Rattle.grammar.specs.ReadDocument.{
   node_tag,
@@ -29,7 +31,6 @@ use Rattle.grammar.specs.ReadDocument.{
   is_node_tag,
 }
 use Rattle.grammar.specs.declared.Refusal.TheVariants.{BadField, BadName, BadTree, BytesAfterEnd}
-use Rattle.grammar.specs.declared.Reading.TheVariants.{Readable, Refused as Unreadable}
 use Rattle.theory.proofs.Lists.BoolLaws.{or_false}
 use Rattle.theory.proofs.Bytes.FieldBytes.{fields_empty, fields_tag, fields_half, fields_front, fields_past}
 use Rattle.basis.proofs.FromPlaces.{slice_part}
@@ -52,30 +53,12 @@ bytes_left_lem (t ∷ h ∷ l ∷ s) = go (leb (h * 256 + l) (length s)) refl �
     go true e = ap bytes_left (fields_front t h l s (leb-true (h * 256 + l) (length s) e))
     go false e = ap bytes_left (fields_past t h l s (leb-false (h * 256 + l) (length s) e))
 
--- the end field's answer, test by test
-module _ (size depth left : ℕ) where
-  pub answer_size : (size ≡ 0 → ⊥) → end_answer size depth left ≡ Unreadable BadField
-  unfolding end_answer
-  answer_size p = rw (ne_eqb size 0 p, end_answer)
-
-  pub answer_depth : size ≡ 0 → (depth ≡ 0 → ⊥) → end_answer size depth left ≡ Unreadable BadTree
-  unfolding end_answer
-  answer_depth p q = rw (eq-eqb size 0 p, ne_eqb depth 0 q, end_answer)
-
-  pub answer_left : size ≡ 0 → depth ≡ 0 → (left ≡ 0 → ⊥) → end_answer size depth left ≡ Unreadable BytesAfterEnd
-  unfolding end_answer
-  answer_left p q r = rw (eq-eqb size 0 p, eq-eqb depth 0 q, ne_eqb left 0 r, end_answer)
-
-  pub answer_none : size ≡ 0 → depth ≡ 0 → left ≡ 0 → end_answer size depth left ≡ Readable
-  unfolding end_answer
-  answer_none p q r = rw (eq-eqb size 0 p, eq-eqb depth 0 q, eq-eqb left 0 r, end_answer)
-
 -- the end field
 module _ (lim : Limits) (classes : Classes) (o : Opened) where
   at_the_end : (value : List ℕ) (rest : Fields)
       → read_node_fields lim classes o (record { tag = document_end_tag; value = value } then rest)
       ≡ (turn_back (not (is_empty value)) BadField
-      >> (turn_back (not (is_empty o.to_come)) BadTree >> (turn_back (bytes_left rest) BytesAfterEnd >> given o.nodes)))
+      >> (turn_back (not (is_empty o.to_come)) BadTree >> (turn_back (bytes_left rest) BytesAfterEnd >> Ok o.nodes)))
   unfolding read_node_fields
   at_the_end value rest = refl
 
@@ -88,23 +71,23 @@ module _ (lim : Limits) (classes : Classes) (o : Opened) where
       ∙ ap
       (λ (b : Bool).
       turn_back (not b) BadField
-      >> (turn_back (not (is_empty o.to_come)) BadTree >> (turn_back (bytes_left (fields_of l)) BytesAfterEnd >> given o.nodes)))
+      >> (turn_back (not (is_empty o.to_come)) BadTree >> (turn_back (bytes_left (fields_of l)) BytesAfterEnd >> Ok o.nodes)))
       (empty_length value)
       ∙ ap
       (λ (b : Bool).
       turn_back (not (eqb (length value) 0)) BadField
-      >> (turn_back (not b) BadTree >> (turn_back (bytes_left (fields_of l)) BytesAfterEnd >> given o.nodes)))
+      >> (turn_back (not b) BadTree >> (turn_back (bytes_left (fields_of l)) BytesAfterEnd >> Ok o.nodes)))
       (empty_length o.to_come)
       ∙ ap
       (λ (b : Bool).
       turn_back (not (eqb (length value) 0)) BadField
-      >> (turn_back (not (eqb (length o.to_come) 0)) BadTree >> (turn_back b BytesAfterEnd >> given o.nodes)))
+      >> (turn_back (not (eqb (length o.to_come) 0)) BadTree >> (turn_back b BytesAfterEnd >> Ok o.nodes)))
       (bytes_left_lem l)
       ∙ go (eqb (length value) 0) refl (eqb (length o.to_come) 0) refl (eqb (length l) 0) refl
     where
-      tests : Bool → Bool → Bool → Outcome (List Node)
+      tests : Bool → Bool → Bool → Result (List Node) Refusal
       tests a b c =
-          turn_back (not a) BadField >> (turn_back (not b) BadTree >> (turn_back (not c) BytesAfterEnd >> given o.nodes))
+          turn_back (not a) BadField >> (turn_back (not b) BadTree >> (turn_back (not c) BytesAfterEnd >> Ok o.nodes))
 
       go : (a : Bool) → eqb (length value) 0 ≡ a → (b : Bool) → eqb (length o.to_come) 0 ≡ b → (c : Bool) → eqb (length l) 0 ≡ c
           → tests (eqb (length value) 0) (eqb (length o.to_come) 0) (eqb (length l) 0)
@@ -146,12 +129,12 @@ good_counts lim nodes children depth e =
     record { room = room; few = few; level = level; some_level = omega arith }
 
 -- a node field, test by test
-abbrev tried : Bool → Bool → Bool → Opened → Outcome Opened
+abbrev tried : Bool → Bool → Bool → Opened → Result Opened Refusal
 tried fits named bad more =
-    turn_back (not fits) BadField >> (turn_back (not named) BadName >> (turn_back bad BadTree >> given more))
+    turn_back (not fits) BadField >> (turn_back (not named) BadName >> (turn_back bad BadTree >> Ok more))
 
 module _ (lim : Limits) (classes : Classes) (o : Opened) where
-  read_empty : (tag : ℕ) → read_node lim classes o (record { tag = tag; value = [] }) ≡ refused BadField
+  read_empty : (tag : ℕ) → read_node lim classes o (record { tag = tag; value = [] }) ≡ Err BadField
   unfolding read_node
   read_empty tag = refl
 
@@ -171,7 +154,7 @@ module _ (lim : Limits) (classes : Classes) (o : Opened) where
         (λ (b : Bool). tried fits (is_name classes name) b (with_node o (record { head = record { name = name; text = eqb tag (node_tag true) }; children = k })))
         (bad_counts_lem lim o (record { head = record { name = name; text = eqb tag (node_tag true) }; children = k }))
 
-    read_misfit : fits ≡ false → read_node lim classes o (record { tag = tag; value = k ∷ name }) ≡ refused BadField
+    read_misfit : fits ≡ false → read_node lim classes o (record { tag = tag; value = k ∷ name }) ≡ Err BadField
     read_misfit p =
         read_tried
         ∙ ap
@@ -253,32 +236,32 @@ module _ (s : List ℕ) (from to : ℕ) (order : from ≤ to) (within : to ≤ l
     abbrev field : Field
     field = record { tag = tag; value = value }
 
-    goes_on : (v : List ℕ) → value ≡ v → (r : Outcome Opened)
+    goes_on : (v : List ℕ) → value ≡ v → (r : Result Opened Refusal)
         → read_node lim classes o (record { tag = tag; value = v }) ≡ r
         → rest_with lim classes field rest o ≡ (r >>= λ more. rest_of lim classes more rest)
     goes_on v p r q =
         ap (λ (l : List ℕ). rest_with lim classes (record { tag = tag; value = l }) rest o) p
-        ∙ ap (λ (x : Outcome Opened). x >>= λ more. rest_of lim classes more rest) q
+        ∙ ap (λ (x : Result Opened Refusal). x >>= λ more. rest_of lim classes more rest) q
 
-    node_misfit : (1 ≤ to - from → fits lim classes o tag (get_or s from 0) name ≡ false) → rest_with lim classes field rest o ≡ refused BadField
+    node_misfit : (1 ≤ to - from → fits lim classes o tag (get_or s from 0) name ≡ false) → rest_with lim classes field rest o ≡ Err BadField
     node_misfit p = go (leb 1 (to - from)) refl
       where
-        go : (b : Bool) → leb 1 (to - from) ≡ b → rest_with lim classes field rest o ≡ refused BadField
-        go false q = goes_on [] (no_value (leb-false 1 (to - from) q)) (refused BadField) (read_empty lim classes o tag)
+        go : (b : Bool) → leb 1 (to - from) ≡ b → rest_with lim classes field rest o ≡ Err BadField
+        go false q = goes_on [] (no_value (leb-false 1 (to - from) q)) (Err BadField) (read_empty lim classes o tag)
         go true q =
             let some = leb-true 1 (to - from) q in
             goes_on
             (get_or s from 0 ∷ name)
             (first_and_name some)
-            (refused BadField)
+            (Err BadField)
             (read_misfit lim classes o tag (get_or s from 0) name (p some))
 
-    pub node_foreign : is_node_tag tag ≡ false → rest_with lim classes field rest o ≡ refused BadField
+    pub node_foreign : is_node_tag tag ≡ false → rest_with lim classes field rest o ≡ Err BadField
     node_foreign p =
         node_misfit
         (λ q. first_fails (is_node_tag tag) (leb 1 (length name)) (leb (length name) lim.name) p)
 
-    pub node_short : to - from < 2 → rest_with lim classes field rest o ≡ refused BadField
+    pub node_short : to - from < 2 → rest_with lim classes field rest o ≡ Err BadField
     node_short p =
         node_misfit
         (λ q.
@@ -289,7 +272,7 @@ module _ (s : List ℕ) (from to : ℕ) (order : from ≤ to) (within : to ≤ l
         (leb (length name) lim.name)
         (lt-leb 1 (length name) (omega arith)))
 
-    pub node_long : lim.name < to - from - 1 → rest_with lim classes field rest o ≡ refused BadField
+    pub node_long : lim.name < to - from - 1 → rest_with lim classes field rest o ≡ Err BadField
     node_long p =
         node_misfit
         (λ q.
@@ -317,7 +300,7 @@ module _ (s : List ℕ) (from to : ℕ) (order : from ≤ to) (within : to ≤ l
           (tried true named bad (with_node o (record { head = head; children = get_or s from 0 })))
           (read_fits lim classes o tag (get_or s from 0) name tagged (omega arith) (omega arith) named p bad q)
 
-      pub node_misnamed : is_name classes name ≡ false → rest_with lim classes field rest o ≡ refused BadName
+      pub node_misnamed : is_name classes name ≡ false → rest_with lim classes field rest o ≡ Err BadName
       node_misnamed p = node_tried false p (bad_counts lim (length o.nodes) (get_or s from 0) (length o.to_come)) refl
 
       module _ (nodes depth children : ℕ) (counted : children ≡ get_or s from 0) (sized : Sized o nodes depth) where
@@ -326,7 +309,7 @@ module _ (s : List ℕ) (from to : ℕ) (order : from ≤ to) (within : to ≤ l
         here bad e = rw (sized.read, sized.open_levels, ← counted) e
 
         pub node_misplaced : is_name classes name ≡ true → bad_counts lim nodes children depth ≡ true
-            → rest_with lim classes field rest o ≡ refused BadTree
+            → rest_with lim classes field rest o ≡ Err BadTree
         node_misplaced p q = node_tried true p true (here true q)
 
         pub node_here : children < 256 → is_name classes name ≡ true → bad_counts lim nodes children depth ≡ false

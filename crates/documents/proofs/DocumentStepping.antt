@@ -11,21 +11,20 @@ use borrow.Author.Tests.{ne_eqb}
 use Rattle.grammar.specs.Limits.{Limits}
 use Rattle.grammar.specs.Names.{Classes}
 use Rattle.grammar.specs.Fields.{Field, Fields, no_bytes, past_end, ◌then◌, fields_of}
-use Rattle.grammar.specs.Outcome.{Outcome, refused}
+use Rattle.std.specs.Prelude.{Result, Err}
+use Rattle.grammar.specs.declared.Refusal.{Refusal}
 use Rattle.grammar.specs.ReadDocument.{document_end_tag, Node, Opened, read_node_fields}
 use Rattle.grammar.specs.declared.Refusal.TheVariants.{FieldPastEnd}
 use Rattle.reader.proofs.FieldReading.{FoundField}
-use Rattle.documents.specs.declared.documents.Step.{Step}
-use Rattle.documents.specs.declared.documents.Step.TheVariants.{Node as NodeHere, Stop}
 use Rattle.documents.specs.DocumentNodes.{outcome_of}
-use Rattle.documents.specs.DocumentSteps.{end_answer, Sized, rest_of, rest_with, StepSays}
+use Rattle.documents.specs.DocumentSteps.{end_answer, Sized, rest_of, rest_with, NodeStep}
 use Rattle.documents.proofs.DocumentFields.{ends}
 
-pub stops_none : (lim : Limits) (classes : Classes) (o : Opened) (fs : Fields) → fs ≡ no_bytes → rest_of lim classes o fs ≡ refused FieldPastEnd
+pub stops_none : (lim : Limits) (classes : Classes) (o : Opened) (fs : Fields) → fs ≡ no_bytes → rest_of lim classes o fs ≡ Err FieldPastEnd
 unfolding read_node_fields
 stops_none lim classes o fs e = ap (rest_of lim classes o) e
 
-pub stops_past : (lim : Limits) (classes : Classes) (o : Opened) (fs : Fields) → fs ≡ past_end → rest_of lim classes o fs ≡ refused FieldPastEnd
+pub stops_past : (lim : Limits) (classes : Classes) (o : Opened) (fs : Fields) → fs ≡ past_end → rest_of lim classes o fs ≡ Err FieldPastEnd
 unfolding read_node_fields
 stops_past lim classes o fs e = ap (rest_of lim classes o) e
 
@@ -53,10 +52,11 @@ module _ (lim : Limits) (classes : Classes) (s : List ℕ) (at tag from to : ℕ
       ap (rest_of lim classes o) found.fields
       ∙ another_tag lim classes (record { tag = tag; value = slice from to s }) (fields_of (drop to s)) o (ne_eqb tag document_end_tag e)
 
--- a step says the same of what is the same, and from an earlier place
-pub says_also : (lim : Limits) (classes : Classes) (s : List ℕ) (at from nodes depth : ℕ) (whole whole' : Opened → Outcome (List Node)) (st : Step) → at ≤ from
-    → ((o : Opened) → whole' o ≡ whole o) → StepSays lim classes s from nodes depth whole st → StepSays lim classes s at nodes depth whole' st
-says_also lim classes s at from nodes depth whole whole' (NodeHere f t k) h e n =
+-- a node is read the same where what is to come is the same, and from an earlier place
+pub step_also : {lim : Limits} {classes : Classes} {s : List ℕ} {at from nodes depth : ℕ} {whole whole' : Opened → Result (List Node) Refusal}
+    {f t k : ℕ} → at ≤ from → ((o : Opened) → whole' o ≡ whole o)
+    → NodeStep lim classes s from nodes depth whole f t k → NodeStep lim classes s at nodes depth whole' f t k
+step_also h e n =
     record {
       forward = let p = n.forward in omega arith;
       order = n.order;
@@ -68,4 +68,3 @@ says_also lim classes s at from nodes depth whole whole' (NodeHere f t k) h e n 
       small = n.small;
       goes = λ o z. e o ∙ n.goes o z;
     }
-says_also lim classes s at from nodes depth whole whole' (Stop answer) h e n = λ o z. e o ∙ n o z

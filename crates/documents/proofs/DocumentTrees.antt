@@ -10,7 +10,9 @@ use mathlib.Core.Path.{◌≡◌, refl, sym, ◌∙◌, ap, subst}
 use lib.ListN.{length, drop, get_elem?}
 use Rattle.grammar.specs.Limits.{Limits}
 use Rattle.grammar.specs.Names.{Classes}
-use Rattle.grammar.specs.Outcome.{Outcome, given, ◌>>=◌}
+use Rattle.std.specs.Prelude.{Result, Ok}
+use Rattle.grammar.specs.Outcome.{◌>>=◌}
+use Rattle.grammar.specs.declared.Refusal.{Refusal}
 use Rattle.grammar.specs.Tree.{Tree, node, Forest, []ᵗ, ◌∷ᵗ◌, trees}
 use Rattle.grammar.specs.ReadDocument.{Node, other_trees, forest_of, tree_of, read_document_file}
 use Rattle.grammar.specs.ReadText.{read_text}
@@ -77,18 +79,18 @@ mutual
 
 -- the nodes that are read are those of the document's tree
 pub document_nodes : (lim : Limits) (classes : Classes) (format : Format) (bytes : List ℕ) (ns : List Node)
-    → read_nodes_as lim classes format bytes ≡ given ns
-    → (t : Tree) × (ns ≡ nodes_of t) × (read_document lim classes format bytes ≡ given t)
+    → read_nodes_as lim classes format bytes ≡ Ok ns
+    → (t : Tree) × (ns ≡ nodes_of t) × (read_document lim classes format bytes ≡ Ok t)
 unfolding read_document read_document_file
 document_nodes lim classes DocumentFile bytes ns e =
     let (t, made, shallow) = nodes_were lim classes bytes ns e in
-    (t, made, ap (λ (x : Outcome (List Node)). x >>= tree_of) e ∙ ap tree_of made ∙ tree_of_nodes t)
+    (t, made, ap (λ (x : Result (List Node) Refusal). x >>= tree_of) e ∙ ap tree_of made ∙ tree_of_nodes t)
 document_nodes lim classes XmlText bytes ns e =
-    let (t, read, made) = was_given (read_text lim classes bytes) (λ d. given (nodes_of d)) ns e in
+    let (t, read, made) = was_given (read_text lim classes bytes) (λ d. Ok (nodes_of d)) ns e in
     (t, sym (given_eq made), read)
 
 pub complete : (lim : Limits) (classes : Classes) (format : Format) (bytes : List ℕ) (ns : List Node)
-    → read_nodes_as lim classes format bytes ≡ given ns
+    → read_nodes_as lim classes format bytes ≡ Ok ns
     → (tree_count ns ≡ 1) × Enough ns
 unfolding tree_count
 complete lim classes format bytes ns e =

@@ -91,6 +91,3 @@ module _ (coming : List ℕ) (depth children : ℕ) (some : 0 < depth) (room : d
 
 pub inner : (coming : List ℕ) (depth : ℕ) → 0 < depth → Open coming depth → 0 < get_or coming (depth - 1) 0
 inner coming depth h o = o.innermost (depth - 1) (omega arith)
-
-pub room_stored : (coming : List ℕ) (depth i v j w : ℕ) → depth < length coming → depth + 1 ≤ length (set (set coming i v) j w)
-room_stored coming depth i v j w h = simp length-set (omega arith)

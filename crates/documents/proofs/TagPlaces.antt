@@ -9,7 +9,9 @@ use lib.Dec.{eqb, leb}
 use lib.ListN.{length, get_or, drop, drop_of_length-le}
 use lib.Seq.{slice}
 use borrow.Author.Tests.{leb-true, leb-false, eqb-true, eq-eqb, ne_eqb}
+use Rattle.std.specs.Prelude.{Result, Ok, Err, Option, Some}
 use Rattle.grammar.specs.Names.{Name}
+use Rattle.grammar.specs.declared.Refusal.{Refusal}
 use Rattle.grammar.specs.ReadText.{
   less_than,
   slash,
@@ -33,8 +35,8 @@ use Rattle.theory.proofs.Lists.BoolLaws.{and_right}
 use Rattle.theory.proofs.Bytes.TextTags.{tags_end, tags_stray, tags_broken, tags_next}
 use Rattle.basis.proofs.FromPlaces.{from_place}
 use Rattle.documents.specs.declared.text.Tag.{Tag as TagHere}
-use Rattle.documents.specs.declared.text.Tag.TheVariants.{NoMore, NotAllowed, Element, End}
-use Rattle.documents.specs.TextSteps.{ends_tag, Forward, NameEnd, TagPlaces, element_tag, FrontSays, TagSays}
+use Rattle.documents.specs.declared.text.Tag.TheVariants.{Element, End}
+use Rattle.documents.specs.TextSteps.{ends_tag, Forward, NameEnd, TagPlaces, element_tag, FrontIs, FrontSays, TagIs, TagSays}
 
 -- > at a place
 module _ (s : List ℕ) (at : ℕ) where
@@ -101,7 +103,7 @@ module _ (s : List ℕ) (from to last : ℕ) (name : NameEnd s from to) (white :
       record { forward = omega arith; order = order; ends = omega arith; within = q }
 
   module _ (e : ends_tag s last ≡ true) where
-    pub end_whole : FrontSays s from (ended_by (end_tag front) behind) (End from to (last + 1))
+    pub end_whole : FrontIs s from (ended_by (end_tag front) behind) (End from to (last + 1))
     end_whole = (
       places (last + 1) (omega arith) (let h = held s last e in omega arith),
       ap (ended_by (end_tag front)) stands
@@ -109,10 +111,9 @@ module _ (s : List ℕ) (from to last : ℕ) (name : NameEnd s from to) (white :
           ∙ ap (λ (n : Name). just (end_tag n, drop (last + 1) s)) (sym name.name),
     )
 
-    pub start_whole : FrontSays s from (element_end front behind) (Element from to (last + 1) 1)
+    pub start_whole : FrontIs s from (element_end front behind) (Element from to (last + 1) true)
     start_whole = (
       places (last + 1) (omega arith) (let h = held s last e in omega arith),
-      omega arith,
       ap (element_end front) stands
           ∙ ends_start s last front e
           ∙ ap (λ (n : Name). just (start_tag n, drop (last + 1) s)) (sym name.name),
@@ -132,12 +133,11 @@ module _ (s : List ℕ) (from to last : ℕ) (name : NameEnd s from to) (white :
     slashed : element_end front behind ≡ ended_by (empty_tag front) (drop (last + 1) s)
     slashed = ap (element_end front) stands ∙ ends_empty s last front h p
 
-    pub empty_whole : ends_tag s (last + 1) ≡ true → FrontSays s from (element_end front behind) (Element from to (last + 2) 0)
+    pub empty_whole : ends_tag s (last + 1) ≡ true → FrontIs s from (element_end front behind) (Element from to (last + 2) false)
     empty_whole e =
         let two : last + 1 + 1 ≡ last + 2 = omega arith in
         let more = held s (last + 1) e in (
           places (last + 2) (omega arith) (omega arith),
-          omega arith,
           slashed
               ∙ ended_here s (last + 1) (empty_tag front) e
               ∙ ap (λ (k : ℕ). just (empty_tag front, drop k s)) two
@@ -146,6 +146,11 @@ module _ (s : List ℕ) (from to last : ℕ) (name : NameEnd s from to) (white :
 
     pub empty_broken : ends_tag s (last + 1) ≡ false → element_end front behind ≡ nothing
     empty_broken e = slashed ∙ ended_not s (last + 1) (empty_tag front) e
+
+-- the tag that is found
+abbrev pub some_tag : Result TagHere Refusal → Result (Option TagHere) Refusal
+some_tag (Ok tag) = Ok (Some tag)
+some_tag (Err r) = Err r
 
 -- the first byte behind white space
 module _ (s : List ℕ) (at first : ℕ) (white : Forward s at (past_white (drop at s)) first) where
@@ -172,33 +177,36 @@ module _ (s : List ℕ) (at first : ℕ) (white : Forward s at (past_white (drop
           let o = white.order in
           record { forward = omega arith; order = t.order; ends = t.ends; within = t.within }
 
-      -- what is found of the tag there
-      says : (found : FrontTag) → front_tag (drop (first + 1) s) ≡ found → (k : ℕ) → first < k → (r : TagHere) → FrontSays s k found r
-          → TagSays s at r
-      says found e k later NoMore x = absurd x
-      says found e k later NotAllowed x = tags_broken (drop at s) (drop (first + 1) s) inside (e ∙ x)
-      says found e k later (Element from to next stays) x = (
+      -- the tag there
+      found_there : (found : FrontTag) → front_tag (drop (first + 1) s) ≡ found → (k : ℕ) → first < k → (t : TagHere) → FrontIs s k found t
+          → TagIs s at t
+      found_there found e k later (Element from to next stays) x = (
         further later x.0,
-        x.1,
-        tags_next (drop at s) (drop (first + 1) s) inside (element_tag stays (slice from to s)) (drop next s) (e ∙ x.2),
+        tags_next (drop at s) (drop (first + 1) s) inside (element_tag stays (slice from to s)) (drop next s) (e ∙ x.1),
       )
-      says found e k later (End from to next) x = (
+      found_there found e k later (End from to next) x = (
         further later x.0,
         tags_next (drop at s) (drop (first + 1) s) inside (end_tag (slice from to s)) (drop next s) (e ∙ x.1),
       )
 
+      -- what is found of it
+      says : (found : FrontTag) → front_tag (drop (first + 1) s) ≡ found → (k : ℕ) → first < k → (r : Result TagHere Refusal)
+          → FrontSays s k found r → TagSays s at (some_tag r)
+      says found e k later (Ok t) x = found_there found e k later t x
+      says found e k later (Err r) x = (x.0, tags_broken (drop at s) (drop (first + 1) s) inside (e ∙ x.1))
+
       module _ (more : first + 1 < length s) where
-        pub says_end : get_or s (first + 1) 0 ≡ slash → (r : TagHere)
+        pub says_end : get_or s (first + 1) 0 ≡ slash → (r : Result TagHere Refusal)
             → FrontSays s (first + 1 + 1)
             (ended_by (end_tag (name_front (drop (first + 1 + 1) s))) (past_white (past_name (drop (first + 1 + 1) s)))) r
-            → TagSays s at r
+            → TagSays s at (some_tag r)
         unfolding front_tag
         says_end q r x =
             says _ (rw (from_place s (first + 1) more, eq-eqb (get_or s (first + 1) 0) slash q, front_tag)) (first + 1 + 1) (omega arith) r x
 
-        pub says_element : (get_or s (first + 1) 0 ≡ slash → ⊥) → (r : TagHere)
+        pub says_element : (get_or s (first + 1) 0 ≡ slash → ⊥) → (r : Result TagHere Refusal)
             → FrontSays s (first + 1) (element_end (name_front (drop (first + 1) s)) (past_white (past_name (drop (first + 1) s)))) r
-            → TagSays s at r
+            → TagSays s at (some_tag r)
         unfolding front_tag
         says_element q r x = says _ front_element (first + 1) (omega arith) r x
           where

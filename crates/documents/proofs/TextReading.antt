@@ -4,11 +4,13 @@ use native.Mathlib.Numerals.{add-one}
 use native.Mathlib.Omega.{arith}
 use mathlib.Core.Bool.{Bool, true, false, ◌&&◌}
 use mathlib.Core.List.{List, [], ◌∷◌}
-use mathlib.Core.Path.{◌≡◌, refl, sym, ◌∙◌, ap, ap₂}
+use mathlib.Core.Path.{◌≡◌, refl, sym, ◌∙◌, ap}
 use lib.Dec.{eqb, leb, ltb}
 use lib.ListN.{length, get_or, drop, drop_of_length-le}
 use lib.Seq.{slice, slice_empty, slice-cons}
-use borrow.Author.Tests.{ltb-true, ltb-false, leb-true, leb-false, eq-eqb, ne_eqb}
+use borrow.Author.Tests.{ltb-true, ltb-false, leb-true, leb-false}
+use Rattle.std.specs.Prelude.{nat_eq}
+use Rattle.std.specs.Cmp.Lexicographic.{pointwise}
 use Rattle.grammar.specs.Lists.{same_numbers}
 use Rattle.grammar.specs.ReadText.{is_white, ends_name, past_white, name_front, past_name}
 use Rattle.basis.proofs.FromPlaces.{from_place}
@@ -80,36 +82,10 @@ name_ends s from to order within ends inside =
     let both = spans s to within ends (to - from) from (omega arith) inside in
     record { order = order; within = within; name = both.0; behind = both.1 }
 
--- two names of bytes
-unequal : (a b : List ℕ) → (length a ≡ length b → ⊥) → same_numbers a b ≡ false
+-- what `==` says of two slices of bytes
+pub same_bytes : (a b : List ℕ) → pointwise nat_eq a b ≡ same_numbers a b
 unfolding same_numbers
-unequal [] [] h = absurd (h refl)
-unequal [] (y ∷ b) h = refl
-unequal (x ∷ a) [] h = refl
-unequal (x ∷ a) (y ∷ b) h = go (eqb x y) (unequal a b (λ e. h (ap suc e)))
-  where
-    go : (t : Bool) → same_numbers a b ≡ false → (t && same_numbers a b) ≡ false
-    go true e = e
-    go false e = refl
-
-module _ (a b : List ℕ) where
-  pub bytes_lengths : (length a ≡ length b → ⊥) → same_numbers a b ≡ false
-  bytes_lengths h = unequal a b h
-
-  module _ (i : ℕ) where
-    pub bytes_next : i < length a → i < length b → get_or a i 0 ≡ get_or b i 0
-        → same_numbers (drop i a) (drop i b) ≡ same_numbers (drop (i + 1) a) (drop (i + 1) b)
-    unfolding same_numbers
-    bytes_next h k e =
-        ap₂ same_numbers (from_place a i h) (from_place b i k)
-        ∙ ap (λ (t : Bool). t && same_numbers (drop (i + 1) a) (drop (i + 1) b)) (eq-eqb (get_or a i 0) (get_or b i 0) e)
-
-    pub bytes_fail : i < length a → i < length b → (get_or a i 0 ≡ get_or b i 0 → ⊥) → same_numbers (drop i a) (drop i b) ≡ false
-    unfolding same_numbers
-    bytes_fail h k e =
-        ap₂ same_numbers (from_place a i h) (from_place b i k)
-        ∙ ap (λ (t : Bool). t && same_numbers (drop (i + 1) a) (drop (i + 1) b)) (ne_eqb (get_or a i 0) (get_or b i 0) e)
-
-    pub bytes_end : length a ≤ i → length b ≤ i → same_numbers (drop i a) (drop i b) ≡ true
-    unfolding same_numbers
-    bytes_end h k = ap₂ same_numbers (drop_of_length-le a h) (drop_of_length-le b k)
+same_bytes [] [] = refl
+same_bytes [] (y ∷ b) = refl
+same_bytes (x ∷ a) [] = refl
+same_bytes (x ∷ a) (y ∷ b) = ap (λ (t : Bool). eqb x y && t) (same_bytes a b)

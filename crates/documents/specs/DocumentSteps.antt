@@ -1,27 +1,26 @@
 -- The steps of reading a document: the next field, and the open levels after a node.
 use Rattle.std.specs.Prelude.{ℕ, zero, suc, ◌-◌, ◌%◌, ◌≤◌, ◌<◌}
+use Rattle.std.specs.Prelude.{Option, Some, None, Result, Ok, Err}
 use Rattle.std.specs.Prelude.{Bool, true, false, ◌||◌, List, [], ◌∷◌, ◌≡◌, eqb, leb, ltb, length, get_or, drop}
 use Rattle.grammar.specs.Limits.{Limits, child_limit}
 use Rattle.grammar.specs.Names.{Classes}
 use Rattle.grammar.specs.Fields.{Field, Fields, fields_of}
-use Rattle.grammar.specs.Outcome.{Outcome, ◌>>=◌}
+use Rattle.grammar.specs.Outcome.{◌>>=◌}
+use Rattle.grammar.specs.declared.Refusal.{Refusal}
 use Rattle.grammar.specs.ReadDocument.{Node, Opened, closed, after_node, with_node, read_node, read_node_fields}
 use Rattle.grammar.specs.declared.Refusal.TheVariants.{BadField, BadTree, BytesAfterEnd}
-use Rattle.grammar.specs.declared.Reading.{Reading}
-use Rattle.grammar.specs.declared.Reading.TheVariants.{Readable, Refused as Unreadable}
-use Rattle.documents.specs.declared.documents.Step.{Step}
-use Rattle.documents.specs.declared.documents.Step.TheVariants.{Node as NodeHere, Stop}
-use Rattle.documents.specs.DocumentNodes.{node_from, outcome_of}
+use Rattle.documents.specs.declared.documents.NodeField.{NodeField}
+use Rattle.documents.specs.DocumentNodes.{node_from}
 
 -- what an end field says: the size of its value, how many levels are open, how many bytes are left after it
-unfoldable pub end_answer : ℕ → ℕ → ℕ → Reading
+unfoldable pub end_answer : ℕ → ℕ → ℕ → Result (Unit {0}) Refusal
 end_answer size depth left =
     elim (eqb size 0) [
-      | false ↦ Unreadable BadField
+      | false ↦ Err BadField
       | true ↦
           elim (eqb depth 0) [
-            | false ↦ Unreadable BadTree
-            | true ↦ elim (eqb left 0) [ false ↦ Unreadable BytesAfterEnd | true ↦ Readable ]
+            | false ↦ Err BadTree
+            | true ↦ elim (eqb left 0) [ false ↦ Err BytesAfterEnd | true ↦ (Ok tt) ]
           ]
     ]
 
@@ -35,15 +34,15 @@ pub record Sized (o : Opened) (nodes depth : ℕ) : Type 0 where
   pub open_levels : length o.to_come ≡ depth
 
 -- the rest of a document, of which `o` is read
-abbrev pub rest_of : Limits → Classes → Opened → Fields → Outcome (List Node)
+abbrev pub rest_of : Limits → Classes → Opened → Fields → Result (List Node) Refusal
 rest_of = read_node_fields
 
 -- the same, where the first field is no end
-abbrev pub rest_with : Limits → Classes → Field → Fields → Opened → Outcome (List Node)
+abbrev pub rest_with : Limits → Classes → Field → Fields → Opened → Result (List Node) Refusal
 rest_with lim classes f rest o = read_node lim classes o f >>= λ more. rest_of lim classes more rest
 
 -- A node is read: `whole` goes on behind it. Its name stands after `at`.
-pub record NodeStep (lim : Limits) (classes : Classes) (s : List ℕ) (at nodes depth : ℕ) (whole : Opened → Outcome (List Node))
+pub record NodeStep (lim : Limits) (classes : Classes) (s : List ℕ) (at nodes depth : ℕ) (whole : Opened → Result (List Node) Refusal)
     (from to shape : ℕ) : Type 0 where
   pub forward : at < from
   pub order : from ≤ to
@@ -57,10 +56,18 @@ pub record NodeStep (lim : Limits) (classes : Classes) (s : List ℕ) (at nodes 
       → whole o
       ≡ rest_of lim classes (with_node o (node_from s from (to - from) shape)) (fields_of (drop to s))
 
--- what a step says of the rest of a document, `whole`, whatever was read before it
-abbrev pub StepSays : Limits → Classes → List ℕ → ℕ → ℕ → ℕ → (Opened → Outcome (List Node)) → Step → Type 0
-StepSays lim classes s at nodes depth whole (NodeHere from to shape) = NodeStep lim classes s at nodes depth whole from to shape
-StepSays lim classes s at nodes depth whole (Stop answer) = (o : Opened) → Sized o nodes depth → whole o ≡ outcome_of answer o.nodes
+-- what a field that is no end says of the rest of a document, `whole`, whatever was read before it
+abbrev pub NodeSays : Limits → Classes → List ℕ → ℕ → ℕ → ℕ → (Opened → Result (List Node) Refusal) → Result NodeField Refusal
+    → Type 0
+NodeSays lim classes s at nodes depth whole (Ok n) = NodeStep lim classes s at nodes depth whole n.from n.to n.shape
+NodeSays lim classes s at nodes depth whole (Err r) = (o : Opened) → Sized o nodes depth → whole o ≡ Err r
+
+-- what a step says of it
+abbrev pub StepSays : Limits → Classes → List ℕ → ℕ → ℕ → ℕ → (Opened → Result (List Node) Refusal) → Result (Option NodeField) Refusal
+    → Type 0
+StepSays lim classes s at nodes depth whole (Ok (Some n)) = NodeStep lim classes s at nodes depth whole n.from n.to n.shape
+StepSays lim classes s at nodes depth whole (Ok None) = (o : Opened) → Sized o nodes depth → whole o ≡ Ok o.nodes
+StepSays lim classes s at nodes depth whole (Err r) = (o : Opened) → Sized o nodes depth → whole o ≡ Err r
 
 -- the open levels, innermost first: the array has them outermost first
 unfoldable pub open_levels : List ℕ → ℕ → List ℕ

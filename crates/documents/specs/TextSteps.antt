@@ -1,5 +1,6 @@
 -- The steps of reading XML text, as places: the next tag, and an element among those that are open.
 use Rattle.std.specs.Prelude.{ℕ, zero, suc, ◌+◌, ◌-◌, ◌≤◌, ◌<◌}
+use Rattle.std.specs.Prelude.{Option, Some, None, Result, Ok, Err}
 use Rattle.std.specs.Prelude.{Bool, true, false, not, ◌&&◌, ◌||◌, List, ◌≡◌, eqb, leb, length, get_or, set, take, drop}
 use Rattle.std.proofs.Math.Option.{none as nothing, some as just}
 use Rattle.std.proofs.Math.Seq.{slice}
@@ -23,14 +24,13 @@ use Rattle.grammar.specs.ReadText.{
   Elements,
   read_tags,
 }
-use Rattle.grammar.specs.Outcome.{Outcome, given, ◌>>=◌}
+use Rattle.grammar.specs.Outcome.{◌>>=◌}
+use Rattle.grammar.specs.declared.Refusal.{Refusal}
 use Rattle.grammar.specs.ReadDocument.{Node}
 use Rattle.grammar.specs.WriteDocument.{nodes_of}
-use Rattle.grammar.specs.declared.Refusal.TheVariants.{BadName, BadTree}
-use Rattle.grammar.specs.declared.Reading.{Reading}
-use Rattle.grammar.specs.declared.Reading.TheVariants.{Readable, Refused as Unreadable}
+use Rattle.grammar.specs.declared.Refusal.TheVariants.{BadName, BadTree, BadText}
 use Rattle.documents.specs.declared.text.Tag.{Tag as TagHere}
-use Rattle.documents.specs.declared.text.Tag.TheVariants.{NoMore, NotAllowed, Element, End}
+use Rattle.documents.specs.declared.text.Tag.TheVariants.{Element, End}
 
 -- > stands at a place
 abbrev pub ends_tag : List ℕ → ℕ → Bool
@@ -50,9 +50,9 @@ pub record NameEnd (s : List ℕ) (from to : ℕ) : Type 0 where
   pub behind : drop to s ≡ past_name (drop from s)
 
 -- the tag of an element: a start tag leaves it open
-abbrev pub element_tag : ℕ → Name → Tag
-element_tag zero name = empty_tag name
-element_tag (suc n) name = start_tag name
+abbrev pub element_tag : Bool → Name → Tag
+element_tag false name = empty_tag name
+element_tag true name = start_tag name
 
 -- a tag's name begins and ends here, and the text goes on at `next`
 pub record TagPlaces (s : List ℕ) (at from to next : ℕ) : Type 0 where
@@ -61,32 +61,39 @@ pub record TagPlaces (s : List ℕ) (at from to next : ℕ) : Type 0 where
   pub ends : to < next
   pub within : next ≤ length s
 
--- what is found of the tag whose name begins at `at`
-abbrev pub FrontSays : List ℕ → ℕ → FrontTag → TagHere → Type 0
-FrontSays s at front NoMore = ⊥
-FrontSays s at front NotAllowed = front ≡ nothing
-FrontSays s at front (Element from to next stays) =
-    TagPlaces s at from to next × (stays ≤ 1) × (front ≡ just (element_tag stays (slice from to s), drop next s))
-FrontSays s at front (End from to next) = TagPlaces s at from to next × (front ≡ just (end_tag (slice from to s), drop next s))
+-- the tag whose name begins at `at` is found
+abbrev pub FrontIs : List ℕ → ℕ → FrontTag → TagHere → Type 0
+FrontIs s at front (Element from to next stays) =
+    TagPlaces s at from to next × (front ≡ just (element_tag stays (slice from to s), drop next s))
+FrontIs s at front (End from to next) = TagPlaces s at from to next × (front ≡ just (end_tag (slice from to s), drop next s))
 
--- what is found of the tags from a place on
-abbrev pub TagSays : List ℕ → ℕ → TagHere → Type 0
-TagSays s at NoMore = tags_of (drop at s) ≡ no_more
-TagSays s at NotAllowed = tags_of (drop at s) ≡ not_allowed
-TagSays s at (Element from to next stays) =
-    TagPlaces s (at + 1) from to next × (stays ≤ 1)
+-- what is found of the tag whose name begins at `at`
+abbrev pub FrontSays : List ℕ → ℕ → FrontTag → Result TagHere Refusal → Type 0
+FrontSays s at front (Ok tag) = FrontIs s at front tag
+FrontSays s at front (Err r) = (r ≡ BadText) × (front ≡ nothing)
+
+-- the first of the tags from a place on is found
+abbrev pub TagIs : List ℕ → ℕ → TagHere → Type 0
+TagIs s at (Element from to next stays) =
+    TagPlaces s (at + 1) from to next
     × (tags_of (drop at s) ≡ (element_tag stays (slice from to s) then tags_of (drop next s)))
-TagSays s at (End from to next) =
+TagIs s at (End from to next) =
     TagPlaces s (at + 1) from to next × (tags_of (drop at s) ≡ (end_tag (slice from to s) then tags_of (drop next s)))
 
+-- what is found of the tags from a place on
+abbrev pub TagSays : List ℕ → ℕ → Result (Option TagHere) Refusal → Type 0
+TagSays s at (Ok None) = tags_of (drop at s) ≡ no_more
+TagSays s at (Ok (Some tag)) = TagIs s at tag
+TagSays s at (Err r) = (r ≡ BadText) × (tags_of (drop at s) ≡ not_allowed)
+
 -- An element by numbers: its name, how many nodes are read and how many elements open, and whether the innermost is full.
-unfoldable pub element_answer : Limits → Classes → Name → (nodes depth : ℕ) → Bool → Reading
+unfoldable pub element_answer : Limits → Classes → Name → (nodes depth : ℕ) → Bool → Result (Unit {0}) Refusal
 unfolding is_name
 element_answer lim classes name nodes depth full =
     elim (is_name classes name && leb (length name) lim.name) [
-      | false ↦ Unreadable BadName
+      | false ↦ Err BadName
       | true ↦
-          elim (leb lim.nodes nodes || leb lim.levels depth || full) [ true ↦ Unreadable BadTree | false ↦ Readable ]
+          elim (leb lim.nodes nodes || leb lim.levels depth || full) [ true ↦ Err BadTree | false ↦ (Ok tt) ]
     ]
 
 -- where the innermost open element stands among the nodes
@@ -121,13 +128,13 @@ pub record InnermostHeld (s names sizes : List ℕ) (place : ℕ) : Type 0 where
   pub within : get_or names place 0 + get_or sizes place 0 ≤ length s
 
 -- the end of a text by numbers: how many nodes are read, how many elements open
-unfoldable pub text_end : ℕ → ℕ → Reading
+unfoldable pub text_end : ℕ → ℕ → Result (Unit {0}) Refusal
 text_end nodes depth =
     elim (eqb depth 0) [
-      | false ↦ Unreadable BadTree
-      | true ↦ elim (eqb nodes 0) [ true ↦ Unreadable BadTree | false ↦ Readable ]
+      | false ↦ Err BadTree
+      | true ↦ elim (eqb nodes 0) [ true ↦ Err BadTree | false ↦ (Ok tt) ]
     ]
 
 -- the nodes of the rest of a text, of which `e` is read
-abbrev pub text_nodes : Limits → Classes → Elements → Tags → Outcome (List Node)
-text_nodes lim classes e tags = read_tags lim classes e tags >>= λ d. given (nodes_of d)
+abbrev pub text_nodes : Limits → Classes → Elements → Tags → Result (List Node) Refusal
+text_nodes lim classes e tags = read_tags lim classes e tags >>= λ d. Ok (nodes_of d)

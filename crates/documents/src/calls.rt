@@ -6,11 +6,11 @@ ghost use Rattle.grammar.specs.Answers.{reading_numbers};
 ghost use Rattle.grammar.specs.Calls.{after};
 ghost use Rattle.grammar.specs.Promises.{DocumentReading};
 
-use crate::documents::read_document;
+use crate::documents::{DocumentIndex, read_document};
 use basis::classes::classes_load;
 use basis::limits::limits_of;
 use basis::work::clear_work;
-use grammar::{Format, Reading, Refusal, Size};
+use grammar::{Format, Refusal, Size};
 
 // Does a document read?
 pub fn document_reads(
@@ -19,18 +19,18 @@ pub fn document_reads(
     format: Format,
     document: &[u8],
     work: &mut [u32],
-) -> Reading
+) -> Result<(), Refusal>
     ensures { DocumentReading (size_limits size) classes.now format document.now work.old
         (after (reading_numbers result) [] work.new) }
 {
     let limits = limits_of(size);
     if work.len() < limits.words {
-        return Reading::Refused(Refusal::WorkTooShort);
+        return Err(Refusal::WorkTooShort);
     }
-    clear_work(limits, work);
+    clear_work(limits.words, work);
     if !classes_load(classes) {
-        return Reading::Refused(Refusal::BadClasses);
+        return Err(Refusal::BadClasses);
     }
-    let read = read_document(limits, classes, format, document);
-    read.answer
+    let mut index = DocumentIndex::new();
+    read_document(limits, classes, format, document, &mut index)
 }

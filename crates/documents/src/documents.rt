@@ -2,44 +2,44 @@
 ghost use Rattle.std.specs.Prelude.{true, ◌≡◌, ◌-◌, ◌≤◌, ◌<◌, eqb, length, drop, set};
 ghost use Rattle.std.proofs.Math.Seq.{slice};
 ghost use Rattle.grammar.specs.Limits.{input_limit};
-ghost use Rattle.grammar.specs.LimitSets.{limits_of, Within};
+ghost use Rattle.grammar.specs.LimitSets.{limits_of};
 ghost use Rattle.grammar.specs.Fields.{fields_of};
 ghost use Rattle.grammar.specs.Documents.{format_numbered};
 ghost use Rattle.grammar.specs.ReadDocument.{node_tag, is_node_tag};
 ghost use Rattle.grammar.specs.declared.Format.TheVariants.{DocumentFile};
-ghost use Rattle.documents.specs.DocumentNodes.{shape_of, NodesFound, DocumentReads};
-ghost use Rattle.documents.specs.DocumentSteps.{end_answer, bad_counts, rest_of, rest_with, StepSays, Open, Closed, LevelsAfter};
+ghost use Rattle.documents.specs.DocumentNodes.{shape_of, with_node_at, DocumentReads};
+ghost use Rattle.documents.specs.DocumentSteps.{end_answer, bad_counts, rest_of, rest_with, NodeSays, StepSays, Open, Closed, LevelsAfter};
 
 use crate::elements::read_tags;
 use basis::limits::{CHILDREN, INPUT, NAME};
 use basis::names::is_name;
-use basis::numbers::wide;
-use grammar::{Format, Reading, Refusal, SizeLimits};
+use grammar::{Format, Refusal, SizeLimits};
 use reader::fields::{FieldAt, field_at};
 use reader::tags::{DOCUMENT_END_TAG, NODE_TAG, TEXT_NODE_TAG};
 
 // The format that a number stands for in calls from C: 1 XML text, any other number a document file.
+#[tactic(auto, unfolding(grammar::specs::Documents::format_numbered))]
 pub fn format_numbered(number: u32) -> Format
     ensures { result ≡ format_numbered number }
 {
     if number == 1 {
-        return Format::XmlText;
+        Format::XmlText
+    } else {
+        Format::DocumentFile
     }
-    Format::DocumentFile
 }
 
-// What the next field says.
+// A field that is a node: where its name begins and ends, and its shape.
 #[derive(Clone, Copy)]
-enum Step {
-    // A node: where its name begins and ends, and its shape.
-    Node(usize, usize, usize),
-    // The document ends here, with this answer.
-    Stop(Reading),
+struct NodeField {
+    from: usize,
+    to: usize,
+    shape: usize,
 }
 
 // The nodes of a document in file order: where each name stands, and the shape of each: how many children it has, and 256 more if it
 // holds text.
-#[derive(Clone, Copy)]
+#[derive(Drop)]
 pub struct DocumentIndex {
     pub names: [u16; 2048],
     pub sizes: [u16; 2048],
@@ -47,60 +47,60 @@ pub struct DocumentIndex {
     pub nodes: usize,
 }
 
-// Whether a document reads, and its nodes if it does.
-#[derive(Clone, Copy)]
-pub struct DocumentRead {
-    pub answer: Reading,
-    pub index: DocumentIndex,
-}
+impl DocumentIndex {
+    // No nodes.
+    pub fn new() -> Self {
+        Self {
+            names: [0; 2048],
+            sizes: [0; 2048],
+            shapes: [0; 2048],
+            nodes: 0,
+        }
+    }
 
-// Whether a document reads, and how many nodes it has.
-#[derive(Clone, Copy)]
-pub struct NodesRead {
-    pub answer: Reading,
-    pub nodes: usize,
+    // Stores a node behind those that it has.
+    pub fn put_node(&mut self, from: usize, to: usize, shape: usize)
+        requires from_le_to { (from ≤ to) × (to ≤ input_limit) × (shape < 512) }
+        requires nodes_in_bounds { self.old.nodes < 2048 }
+        ensures { self.new ≡ with_node_at self.old from to shape }
+    {
+        self.names[self.nodes] = from as u16;
+        self.sizes[self.nodes] = (to - from) as u16;
+        self.shapes[self.nodes] = shape as u16;
+        self.nodes += 1;
+    }
 }
 
 // What an end field says, with a value of `size` bytes, while `depth` levels are open, and `left` bytes after it.
-fn end_answer(size: usize, depth: usize, left: usize) -> Reading
+#[tactic(auto, unfolding(crate::specs::DocumentSteps::end_answer))]
+fn end_answer(size: usize, depth: usize, left: usize) -> Result<(), Refusal>
     ensures { result ≡ end_answer size depth left }
 {
     if size != 0 {
-        return Reading::Refused(Refusal::BadField);
+        return Err(Refusal::BadField);
     }
     if depth != 0 {
-        return Reading::Refused(Refusal::BadTree);
+        return Err(Refusal::BadTree);
     }
     if left != 0 {
-        return Reading::Refused(Refusal::BytesAfterEnd);
+        return Err(Refusal::BytesAfterEnd);
     }
-    Reading::Readable
+    Ok(())
 }
 
 // The node is one too many, has too many children, lies too deep or follows a complete tree.
 fn bad_node(limits: SizeLimits, nodes: usize, children: usize, depth: usize) -> bool
     ensures { result ≡ bad_counts (limits_of limits) nodes children depth }
 {
-    if limits.nodes <= nodes {
-        return true;
-    }
-    if CHILDREN < children {
-        return true;
-    }
-    if limits.levels < depth {
-        return true;
-    }
-    depth == 0
+    limits.nodes <= nodes || CHILDREN < children || limits.levels < depth || depth == 0
 }
 
 // A node's tag, without or with text.
+#[tactic(auto, unfolding(grammar::specs::ReadDocument::is_node_tag))]
 fn is_node_tag(tag: u8) -> bool
     ensures { result ≡ is_node_tag tag }
 {
-    if tag == NODE_TAG {
-        return true;
-    }
-    tag == TEXT_NODE_TAG
+    tag == NODE_TAG || tag == TEXT_NODE_TAG
 }
 
 // A node's shape, by its tag and how many children it has.
@@ -109,9 +109,10 @@ fn shape_of(tag: u8, children: usize) -> usize
     ensures { result ≡ shape_of (eqb tag (node_tag true)) children }
 {
     if tag == TEXT_NODE_TAG {
-        return 256 + children;
+        256 + children
+    } else {
+        children
     }
-    children
 }
 
 // What a field other than the end says.
@@ -124,36 +125,39 @@ fn node_of(
     to: usize,
     nodes: usize,
     depth: usize,
-) -> Step
+) -> Result<NodeField, Refusal>
     requires in_bounds { 256 ≤ length classes.now }
     requires from_le_to { (from ≤ to) × (to ≤ length s.now) }
-    ensures { StepSays (limits_of limits) classes.now s.now from nodes depth
+    ensures { NodeSays (limits_of limits) classes.now s.now from nodes depth
         (rest_with (limits_of limits) classes.now (record { tag = tag; value = slice from to s.now })
         (fields_of (drop to s.now))) result }
 {
     let size = to - from;
     if !is_node_tag(tag) {
-        return Step::Stop(Reading::Refused(Refusal::BadField));
+        return Err(Refusal::BadField);
     }
     if size < 2 {
-        return Step::Stop(Reading::Refused(Refusal::BadField));
+        return Err(Refusal::BadField);
     }
     if NAME < size - 1 {
-        return Step::Stop(Reading::Refused(Refusal::BadField));
+        return Err(Refusal::BadField);
     }
-    let children = wide(s[from]);
+    let children = usize::from(s[from]);
     let name = from + 1;
-    if is_name(classes, &s[name..to]) {
-        if bad_node(limits, nodes, children, depth) {
-            return Step::Stop(Reading::Refused(Refusal::BadTree));
-        }
-        Step::Node(name, to, shape_of(tag, children))
-    } else {
-        Step::Stop(Reading::Refused(Refusal::BadName))
+    if !is_name(classes, &s[name..to]) {
+        return Err(Refusal::BadName);
     }
+    if bad_node(limits, nodes, children, depth) {
+        return Err(Refusal::BadTree);
+    }
+    Ok(NodeField {
+        from: name,
+        to,
+        shape: shape_of(tag, children),
+    })
 }
 
-// What the field at a place says.
+// What the field at a place says: a node, or that the document ends here.
 fn step_at(
     limits: SizeLimits,
     classes: &[u8],
@@ -161,20 +165,21 @@ fn step_at(
     at: usize,
     nodes: usize,
     depth: usize,
-) -> Step
+) -> Result<Option<NodeField>, Refusal>
     requires { 256 ≤ length classes.now }
     ensures { StepSays (limits_of limits) classes.now s.now at nodes depth
         (λ o. rest_of (limits_of limits) classes.now o (fields_of (drop at s.now))) result }
 {
     match field_at(s, at) {
-        FieldAt::NoBytes => Step::Stop(Reading::Refused(Refusal::FieldPastEnd)),
-        FieldAt::PastEnd => Step::Stop(Reading::Refused(Refusal::FieldPastEnd)),
+        FieldAt::NoBytes => Err(Refusal::FieldPastEnd),
+        FieldAt::PastEnd => Err(Refusal::FieldPastEnd),
         FieldAt::Found(tag, from, to) => {
             if tag == DOCUMENT_END_TAG {
-                let answer = end_answer(to - from, depth, s.len() - to);
-                return Step::Stop(answer);
+                end_answer(to - from, depth, s.len() - to)?;
+                return Ok(None);
             }
-            node_of(limits, classes, s, tag, from, to, nodes, depth)
+            let node = node_of(limits, classes, s, tag, from, to, nodes, depth)?;
+            Ok(Some(node))
         }
     }
 }
@@ -184,12 +189,10 @@ fn closed_depth(coming: &[usize], depth: usize) -> usize
     requires { depth ≤ length coming.now }
     ensures { Closed coming.now depth result }
 {
-    let mut d = depth;
-    while 0 < d {
-        if coming[d - 1] != 0 {
-            return d;
+    for d in (0..depth).rev() {
+        if coming[d] != 0 {
+            return d + 1;
         }
-        d -= 1;
     }
     0
 }
@@ -200,128 +203,53 @@ fn after_node(coming: &mut [usize], depth: usize, children: usize) -> usize
     requires { (0 < depth) × (depth < length coming.old) × Open coming.old depth }
     ensures { LevelsAfter coming.old depth children coming.new result }
 {
-    let top = depth - 1;
-    let left = coming[top] - 1;
-    coming[top] = left;
+    coming[depth - 1] -= 1;
     coming[depth] = children;
     closed_depth(coming, depth + 1)
 }
 
-// Stores a node behind the first ones.
-pub fn put_node(
-    names: &mut [u16],
-    sizes: &mut [u16],
-    shapes: &mut [u16],
-    nodes: usize,
-    from: usize,
-    to: usize,
-    shape: usize,
-)
-    requires from_le_to { (from ≤ to) × (to ≤ input_limit) × (shape < 512) }
-    requires nodes_in_bounds { (nodes < length names.old) × (nodes < length sizes.old) × (nodes < length shapes.old) }
-    ensures name { names.new ≡ set names.old nodes from }
-    ensures size { sizes.new ≡ set sizes.old nodes (to - from) }
-    ensures shape { shapes.new ≡ set shapes.old nodes shape }
-{
-    names[nodes] = from as u16;
-    sizes[nodes] = (to - from) as u16;
-    shapes[nodes] = shape as u16;
-}
-
-// The fields of a document, front to back.
+// The fields of a document, front to back. It begins with no nodes.
 fn read_fields(
     limits: SizeLimits,
     classes: &[u8],
     s: &[u8],
-    names: &mut [u16],
-    sizes: &mut [u16],
-    shapes: &mut [u16],
-) -> NodesRead
+    index: &mut DocumentIndex,
+) -> Result<(), Refusal>
     requires in_bounds { 256 ≤ length classes.now }
-    requires within { Within limits }
-    requires s_len_bound { (length s.now ≤ input_limit) × (limits.nodes ≤ length names.old) × (limits.nodes ≤ length sizes.old)
-        × (limits.nodes ≤ length shapes.old) }
-    ensures { NodesFound (limits_of limits) classes.now DocumentFile s.now names.new
-        sizes.new shapes.new result }
+    requires s_len_bound { length s.now ≤ input_limit }
+    requires no_nodes { index.old.nodes ≡ 0 }
+    ensures { DocumentReads (limits_of limits) classes.now DocumentFile s.now index.new result }
 {
-    let mut nodes: usize = 0;
-    let mut at: usize = 0;
+    let mut at = 0;
     let mut coming = [0usize; 65];
     coming[0] = 1;
-    let mut depth: usize = 1;
-    loop {
-        match step_at(limits, classes, s, at, nodes, depth) {
-            Step::Node(from, to, shape) => {
-                put_node(names, sizes, shapes, nodes, from, to, shape);
-                nodes += 1;
-                at = to;
-                let more = after_node(&mut coming, depth, shape % 256);
-                depth = more;
-            }
-            Step::Stop(answer) => {
-                return NodesRead {
-                    answer: answer,
-                    nodes: nodes,
-                };
-            }
-        }
+    let mut depth = 1;
+    // Fields differ in length: each tells where the next begins.
+    while let Some(node) = step_at(limits, classes, s, at, index.nodes, depth)? {
+        index.put_node(node.from, node.to, node.shape);
+        at = node.to;
+        depth = after_node(&mut coming, depth, node.shape % 256);
     }
+    Ok(())
 }
 
-// The nodes of a document of either format, into lent arrays.
-pub fn read_nodes(
+// Reads a document of either format. After it, whatever the answer, the index has the nodes that were read, up to where it was refused.
+pub fn read_document(
     limits: SizeLimits,
     classes: &[u8],
     format: Format,
     s: &[u8],
-    names: &mut [u16],
-    sizes: &mut [u16],
-    shapes: &mut [u16],
-) -> NodesRead
+    index: &mut DocumentIndex,
+) -> Result<(), Refusal>
     requires in_bounds { 256 ≤ length classes.now }
-    requires within { Within limits }
-    requires nodes_in_bounds { (limits.nodes ≤ length names.old) × (limits.nodes ≤ length sizes.old) × (limits.nodes ≤ length shapes.old) }
-    ensures { NodesFound (limits_of limits) classes.now format s.now names.new sizes.new
-        shapes.new result }
+    ensures { DocumentReads (limits_of limits) classes.now format s.now index.new result }
 {
+    index.nodes = 0;
     if INPUT < s.len() {
-        return NodesRead {
-            answer: Reading::Refused(Refusal::InputTooLong),
-            nodes: 0,
-        };
+        return Err(Refusal::InputTooLong);
     }
     match format {
-        Format::DocumentFile => read_fields(limits, classes, s, names, sizes, shapes),
-        Format::XmlText => read_tags(limits, classes, s, names, sizes, shapes),
-    }
-}
-
-// The nodes of a document of either format.
-pub fn read_document(limits: SizeLimits, classes: &[u8], format: Format, s: &[u8]) -> DocumentRead
-    requires in_bounds { 256 ≤ length classes.now }
-    requires within { Within limits }
-    ensures { DocumentReads (limits_of limits) classes.now format s.now result }
-{
-    let mut names = [0u16; 2048];
-    let mut sizes = [0u16; 2048];
-    let mut shapes = [0u16; 2048];
-    let read = read_nodes(
-        limits,
-        classes,
-        format,
-        s,
-        &mut names,
-        &mut sizes,
-        &mut shapes,
-    );
-    let answer = read.answer;
-    DocumentRead {
-        answer: answer,
-        index: DocumentIndex {
-            names: names,
-            sizes: sizes,
-            shapes: shapes,
-            nodes: read.nodes,
-        },
+        Format::DocumentFile => read_fields(limits, classes, s, index),
+        Format::XmlText => read_tags(limits, classes, s, index),
     }
 }

@@ -2,37 +2,20 @@
 ghost use Rattle.std.specs.Prelude.{◌≡◌, ◌+◌, ◌≤◌, ◌<◌, length, get_or};
 ghost use Rattle.std.proofs.Math.Seq.{slice};
 ghost use Rattle.grammar.specs.Limits.{input_limit};
-ghost use Rattle.grammar.specs.LimitSets.{limits_of, Within};
+ghost use Rattle.grammar.specs.LimitSets.{limits_of};
 ghost use Rattle.grammar.specs.Lists.{same_numbers};
 ghost use Rattle.grammar.specs.declared.Format.TheVariants.{XmlText};
-ghost use Rattle.documents.specs.DocumentNodes.{NodesFound};
+ghost use Rattle.documents.specs.DocumentNodes.{DocumentReads};
 ghost use Rattle.documents.specs.TextSteps.{element_answer, text_end, innermost, full_at, one_child_more, closes_at, InnermostHeld};
 
-use crate::documents::{NodesRead, put_node};
+use crate::documents::DocumentIndex;
 use crate::text::{Tag, tag_at};
 use basis::limits::{CHILDREN, NAME};
 use basis::names::is_name;
-use basis::numbers::wider;
-use grammar::{Reading, Refusal, SizeLimits};
-
-// The same bytes.
-fn same_bytes(a: &[u8], b: &[u8]) -> bool
-    ensures { result ≡ same_numbers a.now b.now }
-{
-    if a.len() != b.len() {
-        return false;
-    }
-    let mut i: usize = 0;
-    while i < a.len() {
-        if a[i] != b[i] {
-            return false;
-        }
-        i += 1;
-    }
-    true
-}
+use grammar::{Refusal, SizeLimits};
 
 // Whether an element may stand where so many nodes are read and so many elements open: its name is tried first.
+#[tactic(auto, unfolding(crate::specs::TextSteps::element_answer))]
 fn element_answer(
     limits: SizeLimits,
     classes: &[u8],
@@ -40,26 +23,26 @@ fn element_answer(
     nodes: usize,
     depth: usize,
     full: bool,
-) -> Reading
+) -> Result<(), Refusal>
     requires { 256 ≤ length classes.now }
     ensures { result ≡ element_answer (limits_of limits) classes.now name.now nodes depth full }
 {
     if !is_name(classes, name) {
-        return Reading::Refused(Refusal::BadName);
+        return Err(Refusal::BadName);
     }
     if NAME < name.len() {
-        return Reading::Refused(Refusal::BadName);
+        return Err(Refusal::BadName);
     }
     if limits.nodes <= nodes {
-        return Reading::Refused(Refusal::BadTree);
+        return Err(Refusal::BadTree);
     }
     if limits.levels <= depth {
-        return Reading::Refused(Refusal::BadTree);
+        return Err(Refusal::BadTree);
     }
     if full {
-        return Reading::Refused(Refusal::BadTree);
+        return Err(Refusal::BadTree);
     }
-    Reading::Readable
+    Ok(())
 }
 
 // Whether the innermost open element has no room for a child, or the tree is complete. For each open element, outermost first, `places`
@@ -71,8 +54,8 @@ fn is_full(shapes: &[u16], places: &[u16; 64], depth: usize, nodes: usize) -> bo
     if depth == 0 {
         return nodes != 0;
     }
-    let parent = wider(places[depth - 1]);
-    CHILDREN <= wider(shapes[parent])
+    let parent = usize::from(places[depth - 1]);
+    CHILDREN <= usize::from(shapes[parent])
 }
 
 // Counts a child of the innermost open element.
@@ -84,101 +67,74 @@ fn count_child(shapes: &mut [u16], places: &[u16; 64], depth: usize)
     if depth == 0 {
         return;
     }
-    let parent = wider(places[depth - 1]);
-    shapes[parent] = shapes[parent] + 1;
+    let parent = usize::from(places[depth - 1]);
+    shapes[parent] += 1;
 }
 
-// Whether an end tag with the name from here to there closes the innermost open element.
-fn closes(
-    s: &[u8],
-    names: &[u16],
-    sizes: &[u16],
-    places: &[u16; 64],
-    depth: usize,
-    from: usize,
-    to: usize,
-) -> bool
-    requires { (depth ≤ 64) × (from ≤ to) × (to ≤ length s.now) × (0 < depth → InnermostHeld s.now names.now sizes.now
-        (innermost places.now depth)) }
-    ensures { result ≡ closes_at s.now names.now sizes.now places.now depth
-        (slice from to s.now) }
+// Whether an end tag with this name closes the innermost open element.
+fn closes(s: &[u8], index: &DocumentIndex, places: &[u16; 64], depth: usize, tag: &[u8]) -> bool
+    requires { (depth ≤ 64) × (0 < depth → InnermostHeld s.now index.now.names index.now.sizes (innermost places.now depth)) }
+    ensures { result ≡ closes_at s.now index.now.names index.now.sizes places.now depth tag.now }
 {
     if depth == 0 {
         return false;
     }
-    let open = wider(places[depth - 1]);
-    let name = wider(names[open]);
-    let end = name + wider(sizes[open]);
-    same_bytes(&s[from..to], &s[name..end])
+    let open = usize::from(places[depth - 1]);
+    let name = usize::from(index.names[open]);
+    let end = name + usize::from(index.sizes[open]);
+    tag == &s[name..end]
 }
 
 // What the end of a text says: no element may be open, and one must have come.
-fn text_end(nodes: usize, depth: usize) -> Reading
+#[tactic(auto, unfolding(crate::specs::TextSteps::text_end))]
+fn text_end(nodes: usize, depth: usize) -> Result<(), Refusal>
     ensures { result ≡ text_end nodes depth }
 {
     if depth != 0 {
-        return Reading::Refused(Refusal::BadTree);
+        return Err(Refusal::BadTree);
     }
     if nodes == 0 {
-        return Reading::Refused(Refusal::BadTree);
+        return Err(Refusal::BadTree);
     }
-    Reading::Readable
+    Ok(())
 }
 
-// What was read.
-fn ended(answer: Reading, nodes: usize) -> NodesRead
-    ensures { (result.answer ≡ answer) × (result.nodes ≡ nodes) }
-{
-    NodesRead {
-        answer: answer,
-        nodes: nodes,
-    }
-}
-
-// The tags of a text, front to back.
+// The tags of a text, front to back. It begins with no nodes.
 pub fn read_tags(
     limits: SizeLimits,
     classes: &[u8],
     s: &[u8],
-    names: &mut [u16],
-    sizes: &mut [u16],
-    shapes: &mut [u16],
-) -> NodesRead
+    index: &mut DocumentIndex,
+) -> Result<(), Refusal>
     requires in_bounds { 256 ≤ length classes.now }
-    requires within { Within limits }
-    requires s_len_bound { (length s.now ≤ input_limit) × (limits.nodes ≤ length names.old) × (limits.nodes ≤ length sizes.old)
-        × (limits.nodes ≤ length shapes.old) }
-    ensures { NodesFound (limits_of limits) classes.now XmlText s.now names.new sizes.new
-        shapes.new result }
+    requires s_len_bound { length s.now ≤ input_limit }
+    requires no_nodes { index.old.nodes ≡ 0 }
+    ensures { DocumentReads (limits_of limits) classes.now XmlText s.now index.new result }
 {
-    let mut nodes: usize = 0;
-    let mut at: usize = 0;
+    let mut at = 0;
     let mut places = [0u16; 64];
-    let mut depth: usize = 0;
-    loop {
-        match tag_at(s, at) {
-            Tag::NoMore => return ended(text_end(nodes, depth), nodes),
-            Tag::NotAllowed => return ended(Reading::Refused(Refusal::BadText), nodes),
+    let mut depth = 0;
+    // Each tag tells where the text goes on behind it.
+    while let Some(tag) = tag_at(s, at)? {
+        match tag {
             Tag::End(from, to, next) => {
-                if !closes(s, names, sizes, &places, depth, from, to) {
-                    return ended(Reading::Refused(Refusal::BadEndTag), nodes);
+                if !closes(s, index, &places, depth, &s[from..to]) {
+                    return Err(Refusal::BadEndTag);
                 }
                 depth -= 1;
                 at = next;
             }
             Tag::Element(from, to, next, stays) => {
-                let full = is_full(shapes, &places, depth, nodes);
-                let answer = element_answer(limits, classes, &s[from..to], nodes, depth, full);
-                if let Reading::Refused(r) = answer {
-                    return ended(Reading::Refused(r), nodes);
-                }
-                count_child(shapes, &places, depth);
-                put_node(names, sizes, shapes, nodes, from, to, 0);
+                let nodes = index.nodes;
+                let full = is_full(&index.shapes, &places, depth, nodes);
+                element_answer(limits, classes, &s[from..to], nodes, depth, full)?;
+                count_child(&mut index.shapes, &places, depth);
+                index.put_node(from, to, 0);
                 places[depth] = nodes as u16;
-                depth += stays;
-                nodes += 1;
+                depth += usize::from(stays);
                 at = next;
             }
         }
     }
+    text_end(index.nodes, depth)
 }

@@ -3,52 +3,37 @@ ghost use Rattle.std.specs.Prelude.{◌≡◌, ◌≤◌, ◌<◌, length, drop}
 ghost use Rattle.grammar.specs.ReadText.{is_white, ends_name, name_front, past_name, past_white, end_tag, ended_by, element_end};
 ghost use Rattle.documents.specs.TextSteps.{ends_tag, Forward, NameEnd, FrontSays, TagSays};
 
-const LESS_THAN: u8 = 0x3C;
+use grammar::Refusal;
 
-const SLASH: u8 = 0x2F;
+const LESS_THAN: u8 = b'<';
 
-const GREATER_THAN: u8 = 0x3E;
+const SLASH: u8 = b'/';
 
-// What stands next in a text. A name is told by where it begins and ends, and then where the text goes on behind the tag.
+const GREATER_THAN: u8 = b'>';
+
+// A tag of a text: where its name begins and ends, and then where the text goes on behind it.
 #[derive(Clone, Copy)]
 pub enum Tag {
-    // No more but white space.
-    NoMore,
-    // A byte that is not allowed, or a tag that is not whole.
-    NotAllowed,
-    // A start tag, with 1 for the element that it leaves open, or an empty-element tag, with 0.
-    Element(usize, usize, usize, usize),
+    // A start tag, which leaves the element open, or an empty-element tag, which does not.
+    Element(usize, usize, usize, bool),
     // An end tag.
     End(usize, usize, usize),
 }
 
 // Space, tab, carriage return, line feed.
+#[tactic(auto, unfolding(grammar::specs::ReadText::is_white))]
 fn is_white(b: u8) -> bool
     ensures { result ≡ is_white b }
 {
-    if b == 32 {
-        return true;
-    }
-    if b == 9 {
-        return true;
-    }
-    if b == 13 {
-        return true;
-    }
-    b == 10
+    matches!(b, b' ' | b'\t' | b'\r' | b'\n')
 }
 
 // White space, / or >.
+#[tactic(auto, unfolding(grammar::specs::ReadText::ends_name))]
 fn ends_name(b: u8) -> bool
     ensures { result ≡ ends_name b }
 {
-    if is_white(b) {
-        return true;
-    }
-    if b == SLASH {
-        return true;
-    }
-    b == GREATER_THAN
+    is_white(b) || b == SLASH || b == GREATER_THAN
 }
 
 // The first place from here on that has no white space.
@@ -56,14 +41,12 @@ fn past_white(s: &[u8], at: usize) -> usize
     requires { at ≤ length s.now }
     ensures { Forward s.now at (past_white (drop at s.now)) result }
 {
-    let mut i = at;
-    while i < s.len() {
+    for i in at..s.len() {
         if !is_white(s[i]) {
             return i;
         }
-        i += 1;
     }
-    i
+    s.len()
 }
 
 // Where the name that begins here ends.
@@ -71,28 +54,23 @@ fn name_end(s: &[u8], from: usize) -> usize
     requires { from ≤ length s.now }
     ensures { NameEnd s.now from result }
 {
-    let mut i = from;
-    while i < s.len() {
+    for i in from..s.len() {
         if ends_name(s[i]) {
             return i;
         }
-        i += 1;
     }
-    i
+    s.len()
 }
 
 // Whether > stands here.
 fn ends_tag(s: &[u8], at: usize) -> bool
     ensures { result ≡ ends_tag s.now at }
 {
-    if s.len() <= at {
-        return false;
-    }
-    s[at] == GREATER_THAN
+    at < s.len() && s[at] == GREATER_THAN
 }
 
 // An end tag, whose name begins here.
-fn end_tag(s: &[u8], from: usize) -> Tag
+fn end_tag(s: &[u8], from: usize) -> Result<Tag, Refusal>
     requires { from ≤ length s.now }
     ensures { FrontSays s.now from
         (ended_by (end_tag (name_front (drop from s.now))) (past_white (past_name (drop from s.now)))) result }
@@ -100,13 +78,13 @@ fn end_tag(s: &[u8], from: usize) -> Tag
     let to = name_end(s, from);
     let last = past_white(s, to);
     if ends_tag(s, last) {
-        return Tag::End(from, to, last + 1);
+        return Ok(Tag::End(from, to, last + 1));
     }
-    Tag::NotAllowed
+    Err(Refusal::BadText)
 }
 
 // A start tag or an empty-element tag, whose name begins here.
-fn element_tag(s: &[u8], from: usize) -> Tag
+fn element_tag(s: &[u8], from: usize) -> Result<Tag, Refusal>
     requires { from ≤ length s.now }
     ensures { FrontSays s.now from
         (element_end (name_front (drop from s.now)) (past_white (past_name (drop from s.now)))) result }
@@ -114,38 +92,39 @@ fn element_tag(s: &[u8], from: usize) -> Tag
     let to = name_end(s, from);
     let last = past_white(s, to);
     if ends_tag(s, last) {
-        return Tag::Element(from, to, last + 1, 1);
+        return Ok(Tag::Element(from, to, last + 1, true));
     }
     if s.len() <= last {
-        return Tag::NotAllowed;
+        return Err(Refusal::BadText);
     }
     if s[last] != SLASH {
-        return Tag::NotAllowed;
+        return Err(Refusal::BadText);
     }
     if ends_tag(s, last + 1) {
-        return Tag::Element(from, to, last + 2, 0);
+        return Ok(Tag::Element(from, to, last + 2, false));
     }
-    Tag::NotAllowed
+    Err(Refusal::BadText)
 }
 
-// What stands next from a place on.
-pub fn tag_at(s: &[u8], at: usize) -> Tag
+// The next tag from a place on, or none where only white space is left. Any other byte outside tags is refused, and so is a tag that is
+// not whole.
+pub fn tag_at(s: &[u8], at: usize) -> Result<Option<Tag>, Refusal>
     requires { at ≤ length s.now }
     ensures { TagSays s.now at result }
 {
     let first = past_white(s, at);
     if s.len() <= first {
-        return Tag::NoMore;
+        return Ok(None);
     }
     if s[first] != LESS_THAN {
-        return Tag::NotAllowed;
+        return Err(Refusal::BadText);
     }
     let inside = first + 1;
     if s.len() <= inside {
-        return Tag::NotAllowed;
+        return Err(Refusal::BadText);
     }
     if s[inside] == SLASH {
-        return end_tag(s, inside + 1);
+        return Ok(Some(end_tag(s, inside + 1)?));
     }
-    element_tag(s, inside)
+    Ok(Some(element_tag(s, inside)?))
 }

@@ -11,6 +11,7 @@ use mathlib.Core.Option.{some as just}
 use mathlib.Core.Path.{◌≡◌, refl, sym, ◌∙◌, ap, subst}
 use lib.ListN.{length, get_or, get_elem?, take, drop, set, replicate, length-set}
 use lib.Seq.{take-set-le, get_or-set_same, get_or-take}
+use Rattle.std.specs.Prelude.{Err, Ok, Result}
 use Rattle.grammar.specs.Lists.{joined_of}
 use Rattle.grammar.specs.Limits.{large, content_limit, operand_limit}
 use Rattle.grammar.specs.Content.{
@@ -32,6 +33,7 @@ use Rattle.grammar.specs.Content.{
   choice_of,
 }
 use Rattle.grammar.specs.ReadContent.{operators}
+use Rattle.grammar.specs.declared.TooLarge.{TooLarge}
 use Rattle.theory.specs.Alternatives.{alts, alts_of_each, one_content, has_alts, all_have_alts, some_left, gathered}
 use Rattle.theory.proofs.Emission.AlternativeLaws.{sequence_has, sequence_has_not}
 use Rattle.theory.proofs.Emission.GatheringLaws.{gathered_nothing, gather_more, written_gathered}
@@ -39,9 +41,7 @@ use Rattle.reader.specs.ExprAt.{◌up_to◌, placed, expr_at, exprs_at}
 use Rattle.reader.proofs.ExprLaws.{expr_kept, expr_forward, expr_written, exprs_none, exprs_more, alone_was, numbered_was, operator_none, operator_empty, operator_type, operator_sequence}
 use Rattle.operands.specs.declared.drafts.OperandRow.{OperandRow}
 use Rattle.operands.specs.declared.drafts.Gathering.{Gathering}
-use Rattle.operands.specs.declared.drafts.Gathering.TheVariants as gathering
 use Rattle.emitting.specs.declared.emitter.Emitted.{Emitted}
-use Rattle.emitting.specs.declared.emitter.Emitted.TheVariants as emitted
 use Rattle.operands.proofs.RowLaws.{exprs_only}
 use Rattle.operands.proofs.FinishLaws.{
   single_stands,
@@ -99,7 +99,7 @@ module _ {s : List ℕ} {at n : ℕ} {types from results d : List ℕ} {row : Op
   row_gives = joined_of (λ xs. xs) (alts_of_each res q.there.contents)
 
   pub no_sources : n ≡ 0 → {Holds : List Content → Type 0} → Holds q.kept.list
-      → GathersWith Holds d d row q.there.next (gathered q.kept.list row_gives) (gathering.Upto at row.count row.end)
+      → GathersWith Holds d d row q.there.next (gathered q.kept.list row_gives) (Ok (record { next = at; count = row.count; end = row.end }))
   no_sources z y =
       let e = none_there large s at n q.there z in
       with_none q.kept row_gives e.1 q.fits (each_none res q.there.contents e.0) y
@@ -139,16 +139,16 @@ module _ {s : List ℕ} {at n : ℕ} {types from results d : List ℕ} {row : Op
     both_gathered : gathered (gathered q.kept.list first_gives) others_give ≡ gathered q.kept.list row_gives
     both_gathered = gather_more q.kept.list first_gives others_give ∙ ap (gathered q.kept.list) (sym both_give)
 
-    module _ (d' : List ℕ) (r : Gathering) {Holds : List Content → Type 0}
+    module _ (d' : List ℕ) (r : Result Gathering TooLarge) {Holds : List Content → Type 0}
         (g : GathersWith Holds d d' row first.first.next (gathered q.kept.list first_gives) r) where
-      pub row_wide : r ≡ gathering.TooLarge
-          → GathersWith Holds d d' row q.there.next (gathered q.kept.list row_gives) gathering.TooLarge
+      pub row_wide : r ≡ Err (record {})
+          → GathersWith Holds d d' row q.there.next (gathered q.kept.list row_gives) (Err (record {}))
       row_wide e =
           with_large (gathered q.kept.list row_gives)
           (first_wide (row.limit - row.base) q.kept.list first_gives others_give row_gives both_give
           (told_large d d' row.base row.end row.limit first.first.next (gathered q.kept.list first_gives) r e g.gathers))
 
-      module _ {next more last : ℕ} (e : r ≡ gathering.Upto next more last) (l : length d' ≡ length d) where
+      module _ {next more last : ℕ} (e : r ≡ Ok (record { next = next; count = more; end = last })) (l : length d' ≡ length d) where
         pub told : (next ≡ first.first.next) × OperandsAdded d d' row.base row.end (gathered q.kept.list first_gives) row.limit more last
         told = told_upto d d' row.base row.end row.limit first.first.next (gathered q.kept.list first_gives) r next more last e g.gathers
 
@@ -174,7 +174,7 @@ module _ {s : List ℕ} {at n : ℕ} {types from results d : List ℕ} {row : Op
         pub goes_on : at < next
         goes_on = subst (λ (k : ℕ). at < k) (sym told.0) first.forward
 
-        pub row_then : (d'' : List ℕ) (o : Gathering) {Holds' : List Content → Type 0}
+        pub row_then : (d'' : List ℕ) (o : Result Gathering TooLarge) {Holds' : List Content → Type 0}
             → GathersWith Holds' d' d'' (reaching row more last) first.others.next
             (gathered (gathered q.kept.list first_gives) others_give) o
             → GathersWith Holds' d d'' row q.there.next (gathered q.kept.list row_gives) o
@@ -196,25 +196,25 @@ pub record SourcesLeft {s : List ℕ} {at n : ℕ} {types from results d : List 
     : Type 0 where
   pub rest : Sources s at' left types from results d' (reaching row count' end') words'
   pub registered : Registered register rest.kept.list
-  pub whole : (register' d'' : List ℕ) (o : Gathering)
+  pub whole : (register' d'' : List ℕ) (o : Result Gathering TooLarge)
       → GathersWith (Registered register') d' d'' (reaching row count' end') rest.there.next
       (gathered rest.kept.list (joined_of (λ xs. xs) (alts_of_each res rest.there.contents))) o
       → GathersWith (Registered register') d d'' row q.there.next
       (gathered q.kept.list (joined_of (λ xs. xs) (alts_of_each res q.there.contents))) o
 
 -- what an answer says, once it is known which it is
-pub emits_large : (d d' : List ℕ) (start place n next : ℕ) (cs : Contents) (r : Emitted) → r ≡ emitted.TooLarge
+pub emits_large : (d d' : List ℕ) (start place n next : ℕ) (cs : Contents) (r : Result Emitted TooLarge) → r ≡ Err (record {})
     → Emits d d' start place n next cs r → Unfit (start + content_limit - place) cs
 unfolding Emits
-emits_large d d' start place n next cs r e g = subst (λ (x : Emitted). Emits d d' start place n next cs x) e g
+emits_large d d' start place n next cs r e g = subst (λ (x : Result Emitted TooLarge). Emits d d' start place n next cs x) e g
 
-pub emits_upto : (d d' : List ℕ) (start place n next : ℕ) (cs : Contents) (r : Emitted) (m end : ℕ) → r ≡ emitted.Upto m end
+pub emits_upto : (d d' : List ℕ) (start place n next : ℕ) (cs : Contents) (r : Result Emitted TooLarge) (m end : ℕ) → r ≡ Ok (record { next = m; end = end })
     → Emits d d' start place n next cs r → (m ≡ next) × Laid d d' start place n cs end
 unfolding Emits
-emits_upto d d' start place n next cs r m end e g = subst (λ (x : Emitted). Emits d d' start place n next cs x) e g
+emits_upto d d' start place n next cs r m end e g = subst (λ (x : Result Emitted TooLarge). Emits d d' start place n next cs x) e g
 
 large_emits : (d d' : List ℕ) (start place n next : ℕ) (cs : Contents) → Unfit (start + content_limit - place) cs
-    → Emits d d' start place n next cs emitted.TooLarge
+    → Emits d d' start place n next cs (Err (record {}))
 unfolding Emits
 large_emits d d' start place n next cs h = h
 
@@ -231,14 +231,14 @@ fresh_row d base h =
     }
 
 -- one more operand written, and the others after it
-others_laid : (d d' : List ℕ) (start place last n next next' : ℕ) (c : Content) (cs : Contents) (r : Emitted) → (n ≡ 0 → ⊥)
+others_laid : (d d' : List ℕ) (start place last n next next' : ℕ) (c : Content) (cs : Contents) (r : Result Emitted TooLarge) → (n ≡ 0 → ⊥)
     → expr_at d place ≡ just (c up_to last) → last ≤ start + content_limit → place ≤ last → next ≡ next'
     → Emits d d' start last (n - 1) next cs r → Emits d d' start place n next' (c ∷ᶜ cs) r
 unfolding Emits
-others_laid d d' start place last n next next' c cs emitted.TooLarge some s l p e g =
+others_laid d d' start place last n next next' c cs (Err over) some s l p e g =
     let w = expr_written d place c last s in
     unfit_others (start + content_limit - place) (start + content_limit - last) c cs (omega arith) g
-others_laid d d' start place last n next next' c cs (emitted.Upto m end) some s l p e g =
+others_laid d d' start place last n next next' c cs (Ok got) some s l p e g =
     let k = expr_kept d d' place c last (sym g.1.keeps) s in
     let f = g.1.forward in
     let z : n ≡ suc (n - 1) = omega arith in (
@@ -252,11 +252,11 @@ others_laid d d' start place last n next next' c cs (emitted.Upto m end) some s 
       },
     )
 
-emits_from : (d d' d'' : List ℕ) (start place n next : ℕ) (cs : Contents) (r : Emitted) → take place d' ≡ take place d
+emits_from : (d d' d'' : List ℕ) (start place n next : ℕ) (cs : Contents) (r : Result Emitted TooLarge) → take place d' ≡ take place d
     → Emits d' d'' start place n next cs r → Emits d d'' start place n next cs r
 unfolding Emits
-emits_from d d' d'' start place n next cs emitted.TooLarge e g = g
-emits_from d d' d'' start place n next cs (emitted.Upto m end) e g = (
+emits_from d d' d'' start place n next cs (Err over) e g = g
+emits_from d d' d'' start place n next cs (Ok got) e g = (
   g.0,
   record { stand = g.1.stand; forward = g.1.forward; fits = g.1.fits; keeps = g.1.keeps ∙ e },
 )
@@ -282,7 +282,7 @@ module _ {s : List ℕ} {at n : ℕ} {types from results d : List ℕ} {start pl
   abbrev row_written : Contents
   row_written = each_written res q.there.contents
 
-  pub no_operands : n ≡ 0 → Emits d d start place n q.there.next row_written (emitted.Upto at place)
+  pub no_operands : n ≡ 0 → Emits d d start place n q.there.next row_written (Ok (record { next = at; end = place }))
   unfolding Emits
   no_operands z =
       let e = none_there large s at n q.there z in (
@@ -364,15 +364,15 @@ module _ {s : List ℕ} {at n : ℕ} {types from results d : List ℕ} {start pl
 
     -- the first does not fit, so the row does not
     first_unfit : Unfit (start + content_limit - place) (one_content first_alts ∷ᶜ []ᶜ) → (d' : List ℕ)
-        → Emits d d' start place n q.there.next row_written emitted.TooLarge
+        → Emits d d' start place n q.there.next row_written (Err (record {}))
     first_unfit h d' =
         large_emits d d' start place n q.there.next row_written
         (subst (λ (cs : Contents). Unfit (start + content_limit - place) cs) (sym both_written)
         (unfit_first (start + content_limit - place) (one_content first_alts) (each_written res first'.others.contents) h))
 
-    module _ (d' : List ℕ) (r : Gathering)
+    module _ (d' : List ℕ) (r : Result Gathering TooLarge)
         (g : Gathers d d' (place + 2) (place + 2) (start + headed_length) first'.first.next (gathered [] first_alts) r) where
-      pub operand_wide : r ≡ gathering.TooLarge → Emits d d' start place n q.there.next row_written emitted.TooLarge
+      pub operand_wide : r ≡ Err (record {}) → Emits d d' start place n q.there.next row_written (Err (record {}))
       operand_wide e =
           let w = told_large d d' (place + 2) (place + 2) (start + headed_length) first'.first.next (gathered [] first_alts) r e g in
           let z : start + content_limit - place ≤ start + headed_length - (place + 2) = omega arith in
@@ -382,7 +382,7 @@ module _ {s : List ℕ} {at n : ℕ} {types from results d : List ℕ} {start pl
           (wide_choice (start + headed_length - (place + 2)) (gathered [] first_alts) w)))
           d'
 
-      module _ {next more last : ℕ} (e : r ≡ gathering.Upto next more last) (l : length d' ≡ length d) where
+      module _ {next more last : ℕ} (e : r ≡ Ok (record { next = next; count = more; end = last })) (l : length d' ≡ length d) where
         pub told' : (next ≡ first'.first.next) × OperandsAdded d d' (place + 2) (place + 2) (gathered [] first_alts) (start + headed_length) more last
         told' =
             told_upto d d' (place + 2) (place + 2) (start + headed_length) first'.first.next (gathered [] first_alts) r next more last e g
@@ -398,7 +398,7 @@ module _ {s : List ℕ} {at n : ℕ} {types from results d : List ℕ} {start pl
           operand_stands : expr_at d'' place ≡ just (one_content first_alts up_to close)
           operand_stands = f.stands ∙ ap (λ (c : Content). just (c up_to close)) (sym (written_gathered first_alts))
 
-          pub operand_long : start + content_limit < close → Emits d d'' start place n q.there.next row_written emitted.TooLarge
+          pub operand_long : start + content_limit < close → Emits d d'' start place n q.there.next row_written (Err (record {}))
           operand_long h =
               let w = expr_written d'' place (one_content first_alts) close operand_stands in
               first_unfit (one_long (start + content_limit - place) (one_content first_alts) (omega arith)) d''
@@ -433,7 +433,7 @@ module _ {s : List ℕ} {at n : ℕ} {types from results d : List ℕ} {start pl
                   deep = subst (λ (k : ℕ). row_words * deepest first'.others.contents ≤ k) (sym w) room''.1;
                 }
 
-            pub row_on : (d''' : List ℕ) (o : Emitted)
+            pub row_on : (d''' : List ℕ) (o : Result Emitted TooLarge)
                 → Emits d'' d''' start close (n - 1) first'.others.next (each_written res first'.others.contents) o
                 → Emits d d''' start place n q.there.next row_written o
             row_on d''' o g' =
@@ -457,7 +457,7 @@ pub record RowRest {s : List ℕ} {at n : ℕ} {types from results d : List ℕ}
     (q : Operands s at n types from results d start place words) (res : ℕ → List ℕ) (d' : List ℕ) (at' left place' words' : ℕ)
     : Type 0 where
   pub rest : Operands s at' left types from results d' start place' words'
-  pub whole : (d'' : List ℕ) (o : Emitted)
+  pub whole : (d'' : List ℕ) (o : Result Emitted TooLarge)
       → Emits d' d'' start place' left rest.there.next (each_written res rest.there.contents) o
       → Emits d d'' start place n q.there.next (each_written res q.there.contents) o
 
@@ -495,7 +495,7 @@ module _ {s : List ℕ} {at n : ℕ} {types from results d : List ℕ} {row : Op
   pub sequence_blank : (next : ℕ) → next ≡ cs.operands.next → all_have_alts (some_left res) inner_row ≡ false
       → {Holds : List Content → Type 0} → Holds q.kept.list
       → GathersWith Holds d d row q.there.next (gathered q.kept.list (alts res q.there.content))
-      (gathering.Upto next row.count row.end)
+      (Ok (record { next = next; count = row.count; end = row.end }))
   sequence_blank next e h y =
       with_none q.kept (alts res q.there.content) (e ∙ cs.ends) q.fits
       (ap (alts res) (sym cs.is) ∙ sequence_has_not res inner_row h)
@@ -540,10 +540,10 @@ module _ {s : List ℕ} {at n : ℕ} {types from results d : List ℕ} {row : Op
     gives : whole ∷ [] ≡ alts res q.there.content
     gives = sym (sequence_has res inner_row has) ∙ ap (alts res) cs.is
 
-    module _ (d₂ : List ℕ) (r : Emitted) (g : Emits d₁ d₂ row.end (row.end + 2) n cs.operands.next (each_written res inner_row) r) where
-      pub sequence_wide : r ≡ emitted.TooLarge → {Holds : List Content → Type 0}
+    module _ (d₂ : List ℕ) (r : Result Emitted TooLarge) (g : Emits d₁ d₂ row.end (row.end + 2) n cs.operands.next (each_written res inner_row) r) where
+      pub sequence_wide : r ≡ Err (record {}) → {Holds : List Content → Type 0}
           → GathersWith Holds d d₂ row q.there.next (gathered q.kept.list (alts res q.there.content))
-          gathering.TooLarge
+          (Err (record {}))
       sequence_wide e =
           let h = emits_large d₁ d₂ row.end (row.end + 2) n cs.operands.next (each_written res inner_row) r e g in
           let z = q.small in
@@ -551,7 +551,7 @@ module _ {s : List ℕ} {at n : ℕ} {types from results d : List ℕ} {row : Op
           (subst (λ (l : List Content). TooWide (row.limit - row.base) (gathered q.kept.list l)) gives
           (wide_sequence (row.limit - row.base) (row.end + content_limit - (row.end + 2)) q.kept.list (each_written res inner_row) (omega arith) h))
 
-      module _ {next fresh : ℕ} (e : r ≡ emitted.Upto next fresh) (l : length d₂ ≡ length d₁) where
+      module _ {next fresh : ℕ} (e : r ≡ Ok (record { next = next; end = fresh })) (l : length d₂ ≡ length d₁) where
         laid : (next ≡ cs.operands.next) × Laid d₁ d₂ row.end (row.end + 2) n (each_written res inner_row) fresh
         laid = emits_upto d₁ d₂ row.end (row.end + 2) n cs.operands.next (each_written res inner_row) r next fresh e g
 
@@ -584,7 +584,7 @@ module _ {s : List ℕ} {at n : ℕ} {types from results d : List ℕ} {row : Op
         sequence_newest =
             newest_of d d₂ row fresh whole sequence_keeps sequence_long q.kept sequence_stands
 
-        pub sequence_settled : (o : Gathering) {Holds : List Content → Type 0}
+        pub sequence_settled : (o : Result Gathering TooLarge) {Holds : List Content → Type 0}
             → GathersWith Holds d₂ d₂ row next (gathered q.kept.list (whole ∷ [])) o
             → GathersWith Holds d d₂ row q.there.next (gathered q.kept.list (alts res q.there.content)) o
         sequence_settled o f =
@@ -611,13 +611,13 @@ module _ {s : List ℕ} {at : ℕ} {types from results d : List ℕ} {row : Oper
   pub around_blank : (next : ℕ) → next ≡ one.operand.next → get_or s at 0 ≡ 6 → has_alts (some_left res) inner ≡ false
       → {Holds : List Content → Type 0} → Holds q.kept.list
       → GathersWith Holds d d row q.there.next (gathered q.kept.list (alts res q.there.content))
-      (gathering.Upto next row.count row.end)
+      (Ok (record { next = next; count = row.count; end = row.end }))
   around_blank next e six h y =
       with_none q.kept (alts res q.there.content) (e ∙ one.ends) q.fits
       (ap (alts res) (sym one.is) ∙ one.blank inner six h)
       y
 
-  pub around_empty : (next : ℕ) (d' : List ℕ) (o : Gathering) → next ≡ one.operand.next → (get_or s at 0 ≡ 6 → ⊥)
+  pub around_empty : (next : ℕ) (d' : List ℕ) (o : Result Gathering TooLarge) → next ≡ one.operand.next → (get_or s at 0 ≡ 6 → ⊥)
       → has_alts (some_left res) inner ≡ false → {Holds : List Content → Type 0}
       → GathersWith Holds d d' row next (gathered q.kept.list (empty ∷ [])) o
       → GathersWith Holds d d' row q.there.next (gathered q.kept.list (alts res q.there.content)) o
@@ -671,10 +671,10 @@ module _ {s : List ℕ} {at : ℕ} {types from results d : List ℕ} {row : Oper
     gives' : wrapped ∷ [] ≡ alts res q.there.content
     gives' = sym (one.some inner has) ∙ ap (alts res) one.is
 
-    module _ (e₂ : List ℕ) (r : Emitted) (g : Emits e₁ e₂ row.end (row.end + 1) 1 one.operand.next (each_written res (inner ∷ᶜ []ᶜ)) r) where
-      pub around_wide : r ≡ emitted.TooLarge → {Holds : List Content → Type 0}
+    module _ (e₂ : List ℕ) (r : Result Emitted TooLarge) (g : Emits e₁ e₂ row.end (row.end + 1) 1 one.operand.next (each_written res (inner ∷ᶜ []ᶜ)) r) where
+      pub around_wide : r ≡ Err (record {}) → {Holds : List Content → Type 0}
           → GathersWith Holds d e₂ row q.there.next (gathered q.kept.list (alts res q.there.content))
-          gathering.TooLarge
+          (Err (record {}))
       around_wide e =
           let h = emits_large e₁ e₂ row.end (row.end + 1) 1 one.operand.next (each_written res (inner ∷ᶜ []ᶜ)) r e g in
           let z = q.small in
@@ -685,7 +685,7 @@ module _ {s : List ℕ} {at : ℕ} {types from results d : List ℕ} {row : Oper
           (omega arith)
           (subst (λ (cs : Contents). Unfit (row.end + content_limit - (row.end + 1)) cs) inner_written h)))
 
-      module _ {next fresh : ℕ} (e : r ≡ emitted.Upto next fresh) (l : length e₂ ≡ length e₁) where
+      module _ {next fresh : ℕ} (e : r ≡ Ok (record { next = next; end = fresh })) (l : length e₂ ≡ length e₁) where
         laid' : (next ≡ one.operand.next) × Laid e₁ e₂ row.end (row.end + 1) 1 (each_written res (inner ∷ᶜ []ᶜ)) fresh
         laid' = emits_upto e₁ e₂ row.end (row.end + 1) 1 one.operand.next (each_written res (inner ∷ᶜ []ᶜ)) r next fresh e g
 
@@ -716,7 +716,7 @@ module _ {s : List ℕ} {at : ℕ} {types from results d : List ℕ} {row : Oper
         abbrev pub around_newest : Newest e₂ row fresh
         around_newest = newest_of d e₂ row fresh wrapped around_keeps around_long q.kept around_stands
 
-        pub around_settled : (o : Gathering) {Holds : List Content → Type 0}
+        pub around_settled : (o : Result Gathering TooLarge) {Holds : List Content → Type 0}
             → GathersWith Holds e₂ e₂ row next (gathered q.kept.list (wrapped ∷ [])) o
             → GathersWith Holds d e₂ row q.there.next (gathered q.kept.list (alts res q.there.content)) o
         around_settled o f =
@@ -760,7 +760,7 @@ module _ {s : List ℕ} {at : ℕ} {types from results d : List ℕ} {row : Oper
     source_gives = alts res q.there.content
 
     -- neither a type nor a choice
-    pub plain_gives : (get_or s at 0 ≡ 2 → ⊥) → (get_or s at 0 ≡ 4 → ⊥) → {register part d' : List ℕ} {o : Gathering}
+    pub plain_gives : (get_or s at 0 ≡ 2 → ⊥) → (get_or s at 0 ≡ 4 → ⊥) → {register part d' : List ℕ} {o : Result Gathering TooLarge}
         → Registered register q.kept.list → length part ≡ length (lent_from type_words register)
         → GathersWith (Noted part) d d' row q.there.next (gathered q.kept.list source_gives) o
         → GathersWith (Registered (with_lent type_words register part)) d d' row q.there.next (gathered q.kept.list source_gives) o
@@ -774,13 +774,13 @@ module _ {s : List ℕ} {at : ℕ} {types from results d : List ℕ} {row : Oper
         }
 
     pub none_gives : get_or s at 0 ≡ 0 → {Holds : List Content → Type 0} → Holds q.kept.list
-        → GathersWith Holds d d row q.there.next (gathered q.kept.list source_gives) (gathering.Upto (at + 1) row.count row.end)
+        → GathersWith Holds d d row q.there.next (gathered q.kept.list source_gives) (Ok (record { next = (at + 1); count = row.count; end = row.end }))
     unfolding alts
     none_gives e y =
         let w = alone_was s at q.there.content q.there.next q.there.stands none (ap (get_elem? operators) e ∙ operator_none) in
         with_none q.kept source_gives w.1 q.fits (ap (alts res) (sym w.0)) y
 
-    pub empty_gives : get_or s at 0 ≡ 1 → (d' : List ℕ) (o : Gathering) {Holds : List Content → Type 0}
+    pub empty_gives : get_or s at 0 ≡ 1 → (d' : List ℕ) (o : Result Gathering TooLarge) {Holds : List Content → Type 0}
         → GathersWith Holds d d' row (at + 1) (gathered q.kept.list (empty ∷ [])) o
         → GathersWith Holds d d' row q.there.next (gathered q.kept.list source_gives) o
     unfolding alts
@@ -809,7 +809,7 @@ module _ {s : List ℕ} {at : ℕ} {types from results d : List ℕ} {row : Oper
             deep = choice_room.1;
           }
 
-      pub choice_gives : (d' : List ℕ) (o : Gathering) {Holds : List Content → Type 0}
+      pub choice_gives : (d' : List ℕ) (o : Result Gathering TooLarge) {Holds : List Content → Type 0}
           → GathersWith Holds d d' row cs.operands.next
           (gathered q.kept.list (joined_of (λ xs. xs) (alts_of_each res cs.operands.contents))) o
           → GathersWith Holds d d' row q.there.next (gathered q.kept.list source_gives) o
@@ -819,7 +819,7 @@ module _ {s : List ℕ} {at : ℕ} {types from results d : List ℕ} {row : Oper
           (ap (alts res) cs.is)
           g
 
-  pub type_gives : get_or s at 0 ≡ 2 → (k : ℕ) → k ≡ get_or s (at + 1) 0 → (d' : List ℕ) (o : Gathering) {Holds : List Content → Type 0}
+  pub type_gives : get_or s at 0 ≡ 2 → (k : ℕ) → k ≡ get_or s (at + 1) 0 → (d' : List ℕ) (o : Result Gathering TooLarge) {Holds : List Content → Type 0}
       → GathersWith Holds d d' row (at + 2) (gathered q.kept.list (map type (list_of_type from results k))) o
       → GathersWith Holds d d' row q.there.next
       (gathered q.kept.list (alts (list_of_type from results) q.there.content)) o

@@ -13,6 +13,7 @@ use lib.Dec.{eqb}
 use lib.ListN.{length, get_or, take, drop, replicate, length-append, length-drop, length-replicate}
 use lib.Seq.{length-take-le, take_at, drop_at, get_or-take, get_or-drop}
 use borrow.Author.Tests.{eqb-true, eq-eqb}
+use Rattle.std.specs.Prelude.{Err, Ok, Result}
 use Rattle.grammar.specs.Limits.{content_limit}
 use Rattle.grammar.specs.Lists.{any_pass}
 use Rattle.grammar.specs.Content.{
@@ -29,6 +30,7 @@ use Rattle.grammar.specs.Content.{
 }
 use Rattle.grammar.specs.ReadContent.{content_bytes, same_content}
 use Rattle.grammar.specs.ReadTable.{is_empty}
+use Rattle.grammar.specs.declared.TooLarge.{TooLarge}
 use Rattle.theory.specs.Alternatives.{alts, alts_of_each, one_content, around, in_sequence, gathered}
 use Rattle.theory.proofs.Lists.BoolLaws.{same_test}
 use Rattle.theory.proofs.Contents.ContentBytes.{same_content_lem}
@@ -41,7 +43,6 @@ use Rattle.reader.specs.ExprAt.{◌up_to◌, expr_at}
 use Rattle.reader.proofs.ExprLaws.{expr_bytes, expr_forward}
 use Rattle.operands.specs.declared.drafts.OperandRow.{OperandRow}
 use Rattle.operands.specs.declared.drafts.Gathering.{Gathering}
-use Rattle.operands.specs.declared.drafts.Gathering.TheVariants.{TooLarge, Upto}
 use Rattle.operands.specs.Drafts.{headed_length, reaching, Row, OperandsAdded, Gathers, GathersWith}
 use Rattle.operands.specs.Notes.{Noted, type_words, TypesKept, Registered, row_words}
 use Rattle.emitting.specs.Emitting.{RoomForMore}
@@ -236,7 +237,7 @@ module _ (results : List ℕ) (first stop : ℕ) (row : OperandRow) (ds : List C
         }
 
     pub types_all : (next : ℕ) → types_from results i stop ≡ []
-        → GathersWith (Registered register) d₀ d row next (gathered ds (types_from results first stop)) (Upto next total last)
+        → GathersWith (Registered register) d₀ d row next (gathered ds (types_from results first stop)) (Ok (record { next = next; count = total; end = last }))
     unfolding Gathers
     types_all next e =
         let whole : s.list ≡ types_from results first stop =
@@ -244,7 +245,7 @@ module _ (results : List ℕ) (first stop : ℕ) (row : OperandRow) (ds : List C
         with_as ds s.list (types_from results first stop) refl whole
         (record { gathers = (refl, s.added); noted = λ u. s.registered })
 
-    module _ (h : i < stop) (k : i < length results) (next : ℕ) (d' register' : List ℕ) (r : Gathering)
+    module _ (h : i < stop) (k : i < length results) (next : ℕ) (d' register' : List ℕ) (r : Result Gathering TooLarge)
         (g : GathersWith (Registered register') d d' (reaching row total last) next (gathered (gathered ds s.list) (type (get_or results i 0) ∷ [])) r) where
       abbrev one : List Content
       one = type (get_or results i 0) ∷ []
@@ -263,14 +264,14 @@ module _ (results : List ℕ) (first stop : ℕ) (row : OperandRow) (ds : List C
           gathers_then d₀ d d' row.base row.end last row.limit next (gathered ds more) r s.added.grows s.added.keeps
           (subst (λ (l : List Content). Gathers d d' row.base last row.limit next l r) (gather_more ds s.list one) g.gathers)
 
-      pub types_wide : r ≡ TooLarge
-          → GathersWith (Registered register') d₀ d' row next (gathered ds (types_from results first stop)) TooLarge
+      pub types_wide : r ≡ Err (record {})
+          → GathersWith (Registered register') d₀ d' row next (gathered ds (types_from results first stop)) (Err (record {}))
       types_wide e =
           with_large (gathered ds (types_from results first stop))
           (first_wide (row.limit - row.base) ds more (types_from results (i + 1) stop) (types_from results first stop) (sym more_rest)
           (told_large d₀ d' row.base row.end row.limit next (gathered ds more) r e more_gathers))
 
-      pub types_next : {n more' fresh : ℕ} → r ≡ Upto n more' fresh → TypesSoFar d' register' more' fresh (i + 1)
+      pub types_next : {n more' fresh : ℕ} → r ≡ Ok (record { next = n; count = more'; end = fresh }) → TypesSoFar d' register' more' fresh (i + 1)
       types_next {n} {more'} {fresh} e =
           record {
             list = more;

@@ -1,8 +1,9 @@
 -- What the emitter is given and what it answers.
-use Rattle.std.specs.Prelude.{ℕ, ◌+◌, ◌-◌, ◌*◌, ◌≤◌, ◌<◌, List, ◌≡◌, length, take}
+use Rattle.std.specs.Prelude.{ℕ, ◌+◌, ◌-◌, ◌*◌, ◌≤◌, ◌<◌, List, ◌≡◌, length, take, Ok, Err, Result}
 use Rattle.std.proofs.Math.Option.{some as just}
 use Rattle.grammar.specs.Limits.{large, content_limit}
 use Rattle.grammar.specs.Content.{Contents, nesting, deepest}
+use Rattle.grammar.specs.declared.TooLarge.{TooLarge}
 use Rattle.theory.specs.Alternatives.{some_left}
 use Rattle.sets.specs.Sets.{member}
 use Rattle.reader.specs.ExprAt.{◌up_to◌, exprs_at}
@@ -12,7 +13,6 @@ use Rattle.operands.specs.Drafts.{headed_length, Kept, Unfit}
 use Rattle.operands.specs.Notes.{row_words}
 use Rattle.operands.specs.declared.drafts.OperandRow.{OperandRow}
 use Rattle.emitting.specs.declared.emitter.Emitted.{Emitted}
-use Rattle.emitting.specs.declared.emitter.Emitted.TheVariants.{TooLarge, Upto}
 
 -- the set of the source types that have result types
 pub record Maps (types from results : List ℕ) : Type 0 where
@@ -64,6 +64,6 @@ pub record Laid (before after : List ℕ) (start place n : ℕ) (cs : Contents) 
   pub keeps : take place after ≡ take place before
 
 -- the answer: these operands stand there, and the source goes on at `next`; or they do not fit
-unfoldable pub Emits : List ℕ → List ℕ → ℕ → ℕ → ℕ → ℕ → Contents → Emitted → Type 0
-Emits before after start place n next cs TooLarge = Unfit (start + content_limit - place) cs
-Emits before after start place n next cs (Upto m end) = (m ≡ next) × Laid before after start place n cs end
+unfoldable pub Emits : List ℕ → List ℕ → ℕ → ℕ → ℕ → ℕ → Contents → Result Emitted TooLarge → Type 0
+Emits before after start place n next cs (Err over) = Unfit (start + content_limit - place) cs
+Emits before after start place n next cs (Ok e) = (e.next ≡ next) × Laid before after start place n cs e.end

@@ -12,8 +12,9 @@ ghost use Rattle.operands.specs.Notes.{Noted, type_words, Registered};
 ghost use Rattle.emitting.specs.Emitting.{RoomForMore, Source, Sources, Operands, Emits};
 
 use basis::limits::CONTENT;
-use basis::numbers::{wide, wider};
+use basis::numbers::wide;
 use basis::work::clear;
+use grammar::TooLarge;
 use operands::drafts::{Gathering, OperandRow, finish, keep, settle};
 use operands::limits::{FOLD, HEAD, HEADED, OPERANDS, TYPE_WORDS};
 use reader::operators::{
@@ -22,25 +23,27 @@ use reader::operators::{
 use sets::words::{has, put};
 use union::productive::{content_has, row_has};
 
-// Where the operands of an expression end in the draft, and where the source goes on; or they do not fit.
+// Where the operands of an expression end in the draft, and where the source goes on.
 #[derive(Clone, Copy)]
-pub enum Emitted {
-    TooLarge,
-    Upto { next: usize, end: usize },
+pub struct Emitted {
+    pub next: usize,
+    pub end: usize,
 }
 
 // Where the results of type i begin; 0 past the end.
 fn from_or_zero(from: &[u16], i: usize) -> usize
     ensures { result ≡ get_or from.now i 0 }
 {
-    if i < from.len() {
-        return wider(from[i]);
-    }
-    0
+    usize::from(from.get(i).copied().unwrap_or(0))
 }
 
 // The empty content as an alternative.
-fn gather_empty(draft: &mut [u8], row: OperandRow, next: usize, notes: &mut [u32]) -> Gathering
+fn gather_empty(
+    draft: &mut [u8],
+    row: OperandRow,
+    next: usize,
+    notes: &mut [u32],
+) -> Result<Gathering, TooLarge>
     requires { (q : RoomForMore draft.old row) × Noted notes.old q.kept.list }
     ensures { (q : RoomForMore draft.old row) → Noted notes.old q.kept.list
         → GathersWith (Noted notes.new) draft.old draft.new row next
@@ -58,7 +61,7 @@ fn gather_result(
     row: OperandRow,
     next: usize,
     register: &mut [u32],
-) -> Gathering
+) -> Result<Gathering, TooLarge>
     requires { (q : RoomForMore draft.old row) × Registered register.old q.kept.list }
     ensures { (q : RoomForMore draft.old row)
         → Registered register.old q.kept.list
@@ -68,11 +71,11 @@ fn gather_result(
     let number = wide(res);
     let end = row.end;
     if has(register, 0, number) {
-        return Gathering::Upto {
+        return Ok(Gathering {
             next,
             count: row.count,
             end,
-        };
+        });
     }
     put(register, 0, number);
     draft[end] = TYPE_BYTE;
@@ -97,7 +100,7 @@ fn gather_types(
     row: OperandRow,
     next: usize,
     register: &mut [u32],
-) -> Gathering
+) -> Result<Gathering, TooLarge>
     requires { (q : RoomForMore draft.old row) × Registered register.old q.kept.list }
     ensures { (q : RoomForMore draft.old row)
         → Registered register.old q.kept.list
@@ -106,10 +109,9 @@ fn gather_types(
 {
     let mut count = row.count;
     let mut end = row.end;
-    let mut i = first;
-    while i < stop {
+    for i in first..stop {
         if results.len() <= i {
-            return Gathering::Upto { next, count, end };
+            return Ok(Gathering { next, count, end });
         }
         let so_far = OperandRow {
             base: row.base,
@@ -117,22 +119,11 @@ fn gather_types(
             end,
             limit: row.limit,
         };
-        match gather_result(results[i], draft, so_far, next, register) {
-            Gathering::TooLarge => {
-                return Gathering::TooLarge;
-            }
-            Gathering::Upto {
-                next: _,
-                count: more,
-                end: fresh,
-            } => {
-                count = more;
-                end = fresh;
-            }
-        }
-        i += 1;
+        let gathered = gather_result(results[i], draft, so_far, next, register)?;
+        count = gathered.count;
+        end = gathered.end;
     }
-    Gathering::Upto { next, count, end }
+    Ok(Gathering { next, count, end })
 }
 
 // The result types of a source type as alternatives.
@@ -144,7 +135,7 @@ fn gather_type(
     row: OperandRow,
     next: usize,
     register: &mut [u32],
-) -> Gathering
+) -> Result<Gathering, TooLarge>
     requires { (k < 128) × ((q : RoomForMore draft.old row) × Registered register.old q.kept.list) }
     ensures { (q : RoomForMore draft.old row)
         → Registered register.old q.kept.list
@@ -167,7 +158,7 @@ fn gather_sequence(
     draft: &mut [u8],
     row: OperandRow,
     notes: &mut [u32],
-) -> Gathering
+) -> Result<Gathering, TooLarge>
     requires { (get_or content.now at 0 ≡ 3)
         × ((q : Source content.now at types.now from.now results.now draft.old row (type_words + length notes.old))
         × Noted notes.old q.kept.list) }
@@ -183,7 +174,7 @@ fn gather_sequence(
         let end = row.end;
         draft[end] = SEQUENCE_BYTE;
         draft[end + 1] = content[at + 1];
-        return match emit_row(
+        let emitted = emit_row(
             content,
             at + 2,
             n,
@@ -194,16 +185,14 @@ fn gather_sequence(
             end,
             end + 2,
             &mut notes[OPERANDS..],
-        ) {
-            Emitted::TooLarge => Gathering::TooLarge,
-            Emitted::Upto { next, end: fresh } => settle(draft, row, fresh, next, notes),
-        };
+        )?;
+        return settle(draft, row, emitted.end, emitted.next, notes);
     }
-    Gathering::Upto {
+    Ok(Gathering {
         next: asked.next,
         count: row.count,
         end: row.end,
-    }
+    })
 }
 
 // The alternatives that an operator of one operand gives.
@@ -217,7 +206,7 @@ fn gather_around(
     draft: &mut [u8],
     row: OperandRow,
     notes: &mut [u32],
-) -> Gathering
+) -> Result<Gathering, TooLarge>
     requires { (5 ≤ get_or content.now at 0)
         × ((q : Source content.now at types.now from.now results.now draft.old row (type_words + length notes.old))
         × Noted notes.old q.kept.list) }
@@ -232,7 +221,7 @@ fn gather_around(
     if asked.has {
         let end = row.end;
         draft[end] = operator;
-        return match emit_row(
+        let emitted = emit_row(
             content,
             at + 1,
             1,
@@ -243,17 +232,15 @@ fn gather_around(
             end,
             end + 1,
             &mut notes[OPERANDS..],
-        ) {
-            Emitted::TooLarge => Gathering::TooLarge,
-            Emitted::Upto { next, end: fresh } => settle(draft, row, fresh, next, notes),
-        };
+        )?;
+        return settle(draft, row, emitted.end, emitted.next, notes);
     }
     if operator == ONE_OR_MORE_BYTE {
-        return Gathering::Upto {
+        return Ok(Gathering {
             next: asked.next,
             count: row.count,
             end: row.end,
-        };
+        });
     }
     gather_empty(draft, row, asked.next, notes)
 }
@@ -269,7 +256,7 @@ fn gather_one(
     draft: &mut [u8],
     row: OperandRow,
     notes: &mut [u32],
-) -> Gathering
+) -> Result<Gathering, TooLarge>
     requires { (3 ≤ get_or content.now at 0) × (get_or content.now at 0 ≡ 4 → ⊥)
         × ((q : Source content.now at types.now from.now results.now draft.old row (type_words + length notes.old))
         × Noted notes.old q.kept.list) }
@@ -296,7 +283,7 @@ fn gather_compound(
     draft: &mut [u8],
     row: OperandRow,
     register: &mut [u32],
-) -> Gathering
+) -> Result<Gathering, TooLarge>
     requires { (3 ≤ get_or content.now at 0)
         × ((q : Source content.now at types.now from.now results.now draft.old row (length register.old))
         × Registered register.old q.kept.list) }
@@ -344,7 +331,7 @@ pub fn gather(
     draft: &mut [u8],
     row: OperandRow,
     register: &mut [u32],
-) -> Gathering
+) -> Result<Gathering, TooLarge>
     requires { (q : Source content.now at types.now from.now results.now draft.old row (length register.old))
         × Registered register.old q.kept.list }
     ensures { (q : Source content.now at types.now from.now results.now
@@ -356,11 +343,11 @@ pub fn gather(
 {
     let operator = wide(content[at]);
     match operator {
-        NONE => Gathering::Upto {
+        NONE => Ok(Gathering {
             next: at + 1,
             count: row.count,
             end: row.end,
-        },
+        }),
         EMPTY => gather_empty(draft, row, at + 1, &mut register[TYPE_WORDS..]),
         TYPE => {
             let k = wide(content[at + 1]);
@@ -382,7 +369,7 @@ fn gather_row(
     draft: &mut [u8],
     row: OperandRow,
     register: &mut [u32],
-) -> Gathering
+) -> Result<Gathering, TooLarge>
     requires { (q : Sources content.now at n types.now from.now results.now draft.old row
         (length register.old))
         × Registered register.old q.kept.list }
@@ -397,32 +384,20 @@ fn gather_row(
     let mut at = at;
     let mut count = row.count;
     let mut end = row.end;
-    let mut left = n;
-    while 0 < left {
+    for _ in 0..n {
         let so_far = OperandRow {
             base: row.base,
             count,
             end,
             limit: row.limit,
         };
-        match gather(content, at, types, from, results, draft, so_far, register) {
-            Gathering::TooLarge => {
-                return Gathering::TooLarge;
-            }
-            Gathering::Upto {
-                next,
-                count: more,
-                end: fresh,
-            } => {
-                at = next;
-                count = more;
-                end = fresh;
-            }
-        }
-        left -= 1;
+        let gathered = gather(content, at, types, from, results, draft, so_far, register)?;
+        at = gathered.next;
+        count = gathered.count;
+        end = gathered.end;
     }
     let next = at;
-    Gathering::Upto { next, count, end }
+    Ok(Gathering { next, count, end })
 }
 
 // Writes the contents that so many source contents give, one after the other, as operands of an expression that begins at `start`.
@@ -438,7 +413,7 @@ fn emit_row(
     start: usize,
     place: usize,
     register: &mut [u32],
-) -> Emitted
+) -> Result<Emitted, TooLarge>
     requires { Operands content.now at n types.now from.now results.now draft.old start place (length register.old) }
     ensures { (q : Operands content.now at n types.now from.now results.now
         draft.old start place (length register.old))
@@ -447,8 +422,7 @@ fn emit_row(
 {
     let mut at = at;
     let mut place = place;
-    let mut left = n;
-    while 0 < left {
+    for _ in 0..n {
         clear(&mut register[0..TYPE_WORDS]);
         let row = OperandRow {
             base: place + HEAD,
@@ -456,20 +430,13 @@ fn emit_row(
             end: place + HEAD,
             limit: start + HEADED,
         };
-        match gather(content, at, types, from, results, draft, row, register) {
-            Gathering::TooLarge => {
-                return Emitted::TooLarge;
-            }
-            Gathering::Upto { next, count, end } => {
-                at = next;
-                place = finish(draft, place, count, end);
-            }
-        }
+        let gathered = gather(content, at, types, from, results, draft, row, register)?;
+        at = gathered.next;
+        place = finish(draft, place, gathered.count, gathered.end);
         if start + CONTENT < place {
-            return Emitted::TooLarge;
+            return Err(TooLarge);
         }
-        left -= 1;
     }
     let next = at;
-    Emitted::Upto { next, end: place }
+    Ok(Emitted { next, end: place })
 }

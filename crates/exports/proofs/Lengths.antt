@@ -17,7 +17,9 @@ use Rattle.grammar.specs.Tree.{Tree}
 use Rattle.grammar.specs.Table.{Table}
 use Rattle.grammar.specs.Kinds.{Kind}
 use Rattle.grammar.specs.Least.{Addition, by_table, by_document}
-use Rattle.grammar.specs.Outcome.{Outcome, given, refused, ◌>>=◌, ◌>>◌, turn_back}
+use Rattle.std.specs.Prelude.{Result, Ok, Err}
+use Rattle.grammar.specs.Outcome.{◌>>=◌, ◌>>◌, turn_back}
+use Rattle.grammar.specs.declared.Refusal.{Refusal}
 use Rattle.grammar.specs.Answers.{Numbers, refused_by, numbers_of}
 use Rattle.grammar.specs.WriteTable.{table_bytes}
 use Rattle.grammar.specs.Sample.{sample}
@@ -34,39 +36,39 @@ use Rattle.theory.proofs.Theorems.WidenLeast as widening
 use Rattle.pages.specs.MostBytes.{most_bytes}
 
 -- the value told for an outcome is below 2^32
-abbrev Below : Outcome (List ℕ) → Type 0
+abbrev Below : Result (List ℕ) Refusal → Type 0
 Below o = (numbers_of length o).value < 4294967296
 
 -- after a step, if it is so for whatever the step gives
-then_below : {A : Type 0} (o : Outcome A) (next : A → Outcome (List ℕ)) → ((a : A) → o ≡ given a → Below (next a))
+then_below : {A : Type 0} (o : Result A Refusal) (next : A → Result (List ℕ) Refusal) → ((a : A) → o ≡ Ok a → Below (next a))
     → Below (o >>= next)
 unfolding numbers_of refused_by
-then_below (refused r) next h = omega arith
-then_below (given a) next h = h a refl
+then_below (Err r) next h = omega arith
+then_below (Ok a) next h = h a refl
 
 -- a table of at most 32,768 bytes
 table_below : (out : List ℕ) (g : Table) → length (table_bytes g) ≤ input_limit → Below (written_to out g)
 unfolding written_to numbers_of refused_by
 table_below out g h = go (ltb (length out) (length (table_bytes g)))
   where
-    go : (short : Bool) → Below (turn_back short OutputTooShort >> given (table_bytes g))
+    go : (short : Bool) → Below (turn_back short OutputTooShort >> Ok (table_bytes g))
     go true = omega arith
     go false = omega arith
 
 module _ (lim : Limits) (same_input : lim.input ≡ input_limit) where
-  sample_size : (d : Tree) (g : Table) → sample_table lim d ≡ given g → length (table_bytes g) ≤ input_limit
+  sample_size : (d : Tree) (g : Table) → sample_table lim d ≡ Ok g → length (table_bytes g) ≤ input_limit
   unfolding sample_table of_size
   sample_size d g e =
-      let (small, same) = had_no_fault (too_large lim (sample d)) ResultTooLarge (given (sample d)) g e in
+      let (small, same) = had_no_fault (too_large lim (sample d)) ResultTooLarge (Ok (sample d)) g e in
       subst (λ (r : Table). length (table_bytes r) ≤ input_limit) (given_eq same) (let size = (table_small lim (sample d) small).size in omega arith)
 
-  result_size : (kind : Kind) (old addition result : Table) → widen_by_table lim kind old addition ≡ given result
+  result_size : (kind : Kind) (old addition result : Table) → widen_by_table lim kind old addition ≡ Ok result
       → length (table_bytes result) ≤ input_limit
   result_size kind old addition result e =
       let w = widening.widened lim kind old addition result e in
       subst (λ (r : Table). length (table_bytes r) ≤ input_limit) (sym w.made) (let size = w.small.size in omega arith)
 
-  widen_size : (kind : Kind) (old : Table) (addition : Addition) (result : Table) → widen lim kind old addition ≡ given result
+  widen_size : (kind : Kind) (old : Table) (addition : Addition) (result : Table) → widen lim kind old addition ≡ Ok result
       → length (table_bytes result) ≤ input_limit
   unfolding widen
   widen_size kind old (by_table a) result e = result_size kind old a result e
@@ -81,7 +83,7 @@ module _ (lim : Limits) (same_input : lim.input ≡ input_limit) where
       then_below (document_reads lim classes format document work) _
       (λ d _. then_below (sample_table lim d) _ (λ g e. table_below out g (sample_size d g e)))
 
-  widening_below : (classes : Classes) (kind : Kind) (source : Source) (old addition out work : List ℕ)
+  widening_below : (classes : Classes) (kind : Kind) (source : Source) (old addition : List ℕ) (out work : List ℕ)
       → (numbers_of length (widened lim classes kind source old addition out work)).value < 4294967296
   unfolding widened
   widening_below classes kind source old addition out work =
@@ -106,7 +108,7 @@ sampled_value size classes format document out work left kept n s =
     let below = sample_below (size_limits size) (size_input size) classes format document out work in
     omega arith
 
-pub widened_value : (size : Size) (classes : Classes) (kind : Kind) (source : Source) (old addition out work left kept : List ℕ) (n : Numbers)
+pub widened_value : (size : Size) (classes : Classes) (kind : Kind) (source : Source) (old addition : List ℕ) (out work left kept : List ℕ) (n : Numbers)
     → Widening (size_limits size) classes kind source old addition out work (after n left kept) → n.value < 4294967296
 unfolding wrote
 widened_value size classes kind source old addition out work left kept n s =

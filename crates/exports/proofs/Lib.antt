@@ -1,3 +1,4 @@
 pub mod Apart
 pub mod Lengths
 pub mod PlaceLaws
+pub mod Widened

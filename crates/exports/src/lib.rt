@@ -21,15 +21,13 @@ use basis::limits::{limits_of, size_numbered};
 use basis::work::clear_work;
 use documents::calls::document_reads;
 use documents::documents::format_numbered;
-use grammar::Refusal;
+use grammar::{Refusal, Source};
 use pages::calls::pages;
 use reader::calls::table_reads;
 use reader::label_places::find_label;
+use results::plan::Kind;
 use validator::calls::{is_local, is_single_type, lets_in};
-use widening::calls::{
-    sample, widen_local_by_document, widen_local_by_table, widen_single_type_by_document,
-    widen_single_type_by_table,
-};
+use widening::calls::{sample, widen};
 
 // Does a table read?
 #[unsafe(no_mangle)]
@@ -83,7 +81,7 @@ pub extern "C" fn cogarrune_label_name(
         return of_refusal(Refusal::WorkTooShort);
     }
     let found = find_label(limits, classes, table, label);
-    clear_work(limits, work);
+    clear_work(limits.words, work);
     of_place(found)
 }
 
@@ -193,7 +191,16 @@ pub extern "C" fn cogarrune_widen_local_by_table(
         work.old
         (after (parted result) out.new work.new) }
 {
-    of_written(widen_local_by_table(size_numbered(size), classes, old, addition, out, work))
+    of_written(widen(
+        size_numbered(size),
+        classes,
+        Kind::Local,
+        Source::Table,
+        old,
+        addition,
+        out,
+        work,
+    ))
 }
 
 // Writes the least local table that lets in all of the old table, and the document.
@@ -211,11 +218,12 @@ pub extern "C" fn cogarrune_widen_local_by_document(
         old.now document.now out.old work.old
         (after (parted result) out.new work.new) }
 {
-    of_written(widen_local_by_document(
+    of_written(widen(
         size_numbered(size),
         classes,
+        Kind::Local,
+        Source::Document(format_numbered(format)),
         old,
-        format_numbered(format),
         document,
         out,
         work,
@@ -237,7 +245,16 @@ pub extern "C" fn cogarrune_widen_single_type_by_table(
         work.old
         (after (parted result) out.new work.new) }
 {
-    of_written(widen_single_type_by_table(size_numbered(size), classes, old, addition, out, work))
+    of_written(widen(
+        size_numbered(size),
+        classes,
+        Kind::SingleType,
+        Source::Table,
+        old,
+        addition,
+        out,
+        work,
+    ))
 }
 
 // Writes the least single-type table that lets in all of the old table, and the document.
@@ -255,11 +272,12 @@ pub extern "C" fn cogarrune_widen_single_type_by_document(
         old.now document.now out.old work.old
         (after (parted result) out.new work.new) }
 {
-    of_written(widen_single_type_by_document(
+    of_written(widen(
         size_numbered(size),
         classes,
+        Kind::SingleType,
+        Source::Document(format_numbered(format)),
         old,
-        format_numbered(format),
         document,
         out,
         work,

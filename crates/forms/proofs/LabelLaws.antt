@@ -23,8 +23,7 @@ use Rattle.union.specs.declared.united.United.{United}
 use Rattle.union.specs.View.{Views, label_in}
 use Rattle.union.specs.PairNumbers.{rule_numbered, no_rule}
 use Rattle.union.proofs.ViewLaws.{seen}
-use Rattle.forms.specs.declared.set_words.Counted.{Counted}
-use Rattle.forms.specs.declared.set_words.Counted.TheVariants.{TooMany, Count}
+use Rattle.std.specs.Prelude.{Option, Some, None}
 use Rattle.forms.specs.SetWords.{Ascending, SetsCounted}
 use Rattle.forms.specs.SetForms.{pairs_labelled, label_sets, set_label}
 use Rattle.forms.proofs.NumberLists.{keep_below, first_kept}
@@ -100,14 +99,14 @@ module _ (u : Table) (pairs : ℕ → Bool) where
   up_whole n e = ap sets_up e
 
   -- one label more, as the program finds it
-  module _ (most n : ℕ) (words : List ℕ) (r : Counted)
+  module _ (most n : ℕ) (words : List ℕ) (r : Option ℕ)
       (put : SetsCounted most words (sets_up n ++ keep (λ s. not (is_empty s)) (pairs_labelled u pairs n ∷ [])) r) where
-    pub up_more : (count : ℕ) → r ≡ Count count → SetsCounted most words (sets_up (n + 1)) (Count count)
+    pub up_more : (count : ℕ) → r ≡ Some count → SetsCounted most words (sets_up (n + 1)) (Some count)
     up_more count e =
-        subst (λ (l : List TypeSet). SetsCounted most words l (Count count)) (sym (up_next n))
+        subst (λ (l : List TypeSet). SetsCounted most words l (Some count)) (sym (up_next n))
         (subst (SetsCounted most words (sets_up n ++ keep (λ s. not (is_empty s)) (pairs_labelled u pairs n ∷ []))) e put)
 
-    pub up_many : r ≡ TooMany → (labels : ℕ) → n < labels → labels ≡ length u.labels → most < length (label_sets u pairs)
+    pub up_many : r ≡ None → (labels : ℕ) → n < labels → labels ≡ length u.labels → most < length (label_sets u pairs)
     up_many e labels h f =
         let many : most < length (sets_up n ++ keep (λ s. not (is_empty s)) (pairs_labelled u pairs n ∷ [])) =
         subst (SetsCounted most words (sets_up n ++ keep (λ s. not (is_empty s)) (pairs_labelled u pairs n ∷ []))) e put in

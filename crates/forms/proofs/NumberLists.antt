@@ -4,6 +4,7 @@
 --   same_ascending  ascending lists with the same members are the same
 --   first_kept      the first that is kept is the least that passes the test
 --   puts_kept       a loop that puts each number that is on gives the set of those kept
+--   puts_off        such a loop leaves out a number that is not on
 use Prim.Native.Nat.{ℕ, zero, suc, ◌+◌, ◌≤◌, ◌<◌}
 use native.Mathlib.Omega.{arith}
 use mathlib.Core.Bool.{Bool, true, false, false≢true}
@@ -16,9 +17,9 @@ use borrow.Author.Tests.{eqb-true, eqb-false}
 use Rattle.grammar.specs.Lists.{keep, is_in, numbers_from, numbers_below}
 use Rattle.theory.proofs.Lists.BoolLaws.{same_test}
 use Rattle.theory.proofs.Lists.ListLaws.{keep_yes, keep_no, kept, keep_mem, in_mem, mem_in, numbers_below_lem, keep_on}
-use Rattle.sets.specs.Sets.{nothing}
+use Rattle.sets.specs.Sets.{member, nothing}
 use Rattle.union.specs.Rounds.{puts}
-use Rattle.union.proofs.PutsLaws.{puts_was, puts_has}
+use Rattle.union.proofs.PutsLaws.{puts_was, puts_has, puts_step, put_out}
 
 pub keep_below : (p q : ℕ → Bool) (n : ℕ) → ((i : ℕ) → i < n → p i ≡ q i) → keep p (numbers_below n) ≡ keep q (numbers_below n)
 keep_below p q n h = keep_on p q (numbers_below n) (λ i m. h i ((numbers_below_lem n i).0 m))
@@ -56,6 +57,10 @@ module _ (test : ℕ → Bool) (p : ℕ) (e : test p ≡ true) where
   pub first_kept : (n : ℕ) → p < n → ((q : ℕ) → q < p → test q ≡ false) → get_or (keep test (numbers_below n)) 0 0 ≡ p
   unfolding numbers_below
   first_kept n b h = first_from zero n (omega arith) (omega arith) (λ q i j. h q j)
+
+pub puts_off : (on : ℕ → Bool) (key : ℕ → ℕ) (base : ℕ → Bool) (i : ℕ) (words : List ℕ) → member words 0 ≡ puts on key base i
+    → on i ≡ false → member words 0 ≡ puts on key base (i + 1)
+puts_off on key base i words before e = puts_step on key base i words words false (key i) before (put_out false words (key i) refl) (sym e) refl
 
 pub puts_kept : (on : ℕ → Bool) (n : ℕ) → puts on (λ j. j) nothing n ≡ (λ p. is_in p (keep on (numbers_below n)))
 puts_kept on n =

@@ -40,7 +40,7 @@ use Rattle.theory.proofs.Lists.DistinctLaws.{one_more_new, one_more_old}
 use Rattle.sets.specs.Sets.{member, store_at, Empties}
 use Rattle.sets.proofs.SetLaws.{words_store, store_before, length_store, words_before}
 use Rattle.reader.proofs.LabelSearch.{place_first, place_nowhere}
-use Rattle.forms.specs.declared.set_words.Counted.TheVariants.{TooMany, Count}
+use Rattle.std.specs.Prelude.{Some, None}
 use Rattle.forms.specs.SetWords.{set_in, Ascending, SetsHeld, SetsCounted}
 use Rattle.forms.specs.Worklist.{Few}
 use Rattle.forms.proofs.KeptLists.{keep_nothing}
@@ -84,9 +84,9 @@ module _ {words : List ℕ} {sets : List TypeSet} (held : SetsHeld words sets) (
 
   -- one set more after them
   pub sets_put : length set ≡ 8 → (most : ℕ) → count < most → most ≤ 128 → (after : List ℕ) → after ≡ store_at words (8 * count) set
-      → SetsCounted most after (sets ++ (s ∷ [])) (Count (count + 1))
+      → SetsCounted most after (sets ++ (s ∷ [])) (Some (count + 1))
   sets_put eight most few room after e =
-      subst (λ (w : List ℕ). SetsCounted most w (sets ++ (s ∷ [])) (Count (count + 1))) (sym e) (
+      subst (λ (w : List ℕ). SetsCounted most w (sets ++ (s ∷ [])) (Some (count + 1))) (sym e) (
         omega (arith, longer),
         omega arith,
         record {
@@ -128,7 +128,7 @@ module _ {words : List ℕ} {sets : List TypeSet} (held : SetsHeld words sets) (
 
   -- a set that is empty, or not
   pub none_put : (most : ℕ) → count ≤ most → (r : Bool) → r ≡ true → Empties set r
-      → SetsCounted most words (sets ++ keep (λ t. not (is_empty t)) (s ∷ [])) (Count count)
+      → SetsCounted most words (sets ++ keep (λ t. not (is_empty t)) (s ∷ [])) (Some count)
   unfolding keep
   none_put most few r is empties =
       let e : s ≡ [] =
@@ -137,7 +137,7 @@ module _ {words : List ℕ} {sets : List TypeSet} (held : SetsHeld words sets) (
       (λ p m. sym (ap (λ (f : ℕ → Bool). f p) x.is) ∙ ap (λ (f : ℕ → Bool). f p) (empties.none is)) in
       let same : sets ++ keep (λ t. not (is_empty t)) (s ∷ []) ≡ sets =
       ap (λ (r : TypeSet). sets ++ keep (λ t. not (is_empty t)) (r ∷ [])) e ∙ append-nil sets in
-      subst (λ (l : List TypeSet). SetsCounted most words l (Count count)) (sym same) (counted, few, held)
+      subst (λ (l : List TypeSet). SetsCounted most words l (Some count)) (sym same) (counted, few, held)
 
   pub some_put : (r : Bool) → r ≡ false → Empties set r → sets ++ (s ∷ []) ≡ sets ++ keep (λ t. not (is_empty t)) (s ∷ [])
   unfolding is_in keep
@@ -151,11 +151,11 @@ module _ {words : List ℕ} {sets : List TypeSet} (held : SetsHeld words sets) (
   -- a set that is there, or not
   module _ (once : distinct same_numbers sets ≡ sets) where
     pub old_put : (most : ℕ) → count ≤ most → (r : ℕ) → r ≡ place same_numbers s sets → r < count
-        → SetsCounted most words (distinct same_numbers (sets ++ (s ∷ []))) (Count count)
+        → SetsCounted most words (distinct same_numbers (sets ++ (s ∷ []))) (Some count)
     old_put most few r e h =
         let same =
         one_more_old same_numbers (decided_sym same_numbers numbers_decide) sets s (place_some same_numbers s sets (omega arith)) ∙ once in
-        subst (λ (l : List TypeSet). SetsCounted most words l (Count count)) (sym same) (counted, few, held)
+        subst (λ (l : List TypeSet). SetsCounted most words l (Some count)) (sym same) (counted, few, held)
 
     pub new_put : (r : ℕ) → r ≡ place same_numbers s sets → count ≤ r → sets ++ (s ∷ []) ≡ distinct same_numbers (sets ++ (s ∷ []))
     new_put r e h =
@@ -164,7 +164,7 @@ module _ {words : List ℕ} {sets : List TypeSet} (held : SetsHeld words sets) (
         (λ t. let f = place_found same_numbers s sets t in let l = at_below sets (place same_numbers s sets) f.1 in omega arith) in
         sym (one_more_new same_numbers (decided_sym same_numbers numbers_decide) sets s none ∙ ap (λ (l : List TypeSet). l ++ (s ∷ [])) once)
 
-pub no_sets : (most : ℕ) (words : List ℕ) → 1024 ≤ length words → SetsCounted most words [] (Count 0)
+pub no_sets : (most : ℕ) (words : List ℕ) → 1024 ≤ length words → SetsCounted most words [] (Some 0)
 no_sets most words room = (
   refl,
   omega arith,
@@ -190,8 +190,8 @@ sets_stay before after n {sets} e long room held =
       ascending = held.ascending;
     }
 
-pub few_put : (most n : ℕ) → n ≤ most → Few most (Count n)
+pub few_put : (most n : ℕ) → n ≤ most → Few most (Some n)
 few_put most n h m e = let same : n ≡ m = cc in omega arith
 
-pub few_many : (most : ℕ) → Few most TooMany
+pub few_many : (most : ℕ) → Few most None
 few_many most m e = let z : ◌≡◌ {A = ℕ} 0 1 = cc in absurd (omega arith)

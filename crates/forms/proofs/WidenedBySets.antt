@@ -31,21 +31,12 @@ use Rattle.theory.proofs.Lists.ListLaws.{numbers_below_lem, numbers_length}
 use Rattle.theory.proofs.Bytes.NumberedTable.{Numbered, finished_numbered}
 use Rattle.theory.proofs.Bytes.FormsNumbered.{form_numbered}
 use Rattle.theory.proofs.Tables.RoomierLimits.{counted_roomier}
-use Rattle.forms.specs.SetForms.{rule_by_set, table_by_sets, pairs_within, local_sets, local_table, single_type_sets, single_type_table}
+use Rattle.forms.specs.SetForms.{rule_by_set, table_by_sets, pairs_within, local_table, single_type_table, sets_of, table_of}
 use Rattle.forms.proofs.UnionFit.{UnionFit}
 use Rattle.forms.proofs.SetsFound.{SetOfLabel}
 use Rattle.forms.proofs.TablesBySets.{FormOfSets}
 use Rattle.forms.proofs.SingleTypeBySets.{single_type_set, single_form, single_by_sets}
 use Rattle.forms.proofs.LocalBySets.{local_set, local_form_lem, local_by_sets}
-
--- the sets of a kind, and the table that is made of them
-unfoldable pub sets_of : Limits → Kind → Table → List TypeSet
-sets_of lim local u = local_sets u
-sets_of lim single_type u = single_type_sets lim u
-
-unfoldable pub table_of : Limits → Kind → Table → Table
-table_of lim local u = local_table u
-table_of lim single_type u = single_type_table lim u
 
 module _ {lim : Limits} (u : Table) (fit : UnionFit lim u) where
   pub table_of_kind : (kind : Kind) → tidy_table (with_used_labels (form lim kind (reduce (normalise u)))) ≡ table_of lim kind u

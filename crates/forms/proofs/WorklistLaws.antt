@@ -25,8 +25,7 @@ use Rattle.union.specs.View.{Views, label_in}
 use Rattle.union.specs.PairNumbers.{rule_numbered, fruitful_of, contents_in, met_in}
 use Rattle.union.proofs.MetLaws.{met_hold}
 use Rattle.reducing.proofs.MeetingLaws.{distinct_in}
-use Rattle.forms.specs.declared.set_words.Counted.{Counted}
-use Rattle.forms.specs.declared.set_words.Counted.TheVariants.{TooMany, Count}
+use Rattle.std.specs.Prelude.{Option, Some, None}
 use Rattle.forms.specs.SetWords.{set_in, SetsHeld, SetsCounted}
 use Rattle.forms.specs.Worklist.{sets_within}
 use Rattle.forms.specs.SetForms.{pairs_labelled, met_within, single_type_sets}
@@ -91,7 +90,7 @@ module _ {old add : List ℕ} {v : United} {u : Table} (x : Views old add v u) (
   up_all sets i h =
       ap (λ (l : List TypeSet). distinct same_numbers (sets ++ l)) (take_all i (sets_within u s) (omega (arith, many)))
 
-  module _ (most : ℕ) (sets : List TypeSet) (i : ℕ) (h : i < count) (words : List ℕ) (r : Counted) (t : TypeSet)
+  module _ (most : ℕ) (sets : List TypeSet) (i : ℕ) (h : i < count) (words : List ℕ) (r : Option ℕ) (t : TypeSet)
       (is : t ≡ given (get_or numbers i 0)) (put : SetsCounted most words (distinct same_numbers (up_to sets i ++ (t ∷ []))) r) where
     put_next : SetsCounted most words (up_to sets (i + 1)) r
     put_next =
@@ -99,10 +98,10 @@ module _ {old add : List ℕ} {v : United} {u : Table} (x : Views old add v u) (
         (ap (λ (w : TypeSet). distinct same_numbers (up_to sets i ++ (w ∷ []))) is ∙ up_next sets i h)
         put
 
-    pub up_more : (n : ℕ) → r ≡ Count n → SetsCounted most words (up_to sets (i + 1)) (Count n)
+    pub up_more : (n : ℕ) → r ≡ Some n → SetsCounted most words (up_to sets (i + 1)) (Some n)
     up_more n e = subst (SetsCounted most words (up_to sets (i + 1))) e put_next
 
-    pub up_many : r ≡ TooMany → most < length (distinct same_numbers (sets ++ sets_within u s))
+    pub up_many : r ≡ None → most < length (distinct same_numbers (sets ++ sets_within u s))
     up_many e =
         let a : most < length (up_to sets (i + 1)) = subst (SetsCounted most words (up_to sets (i + 1))) e put_next in
         let b = part_many sets (take (i + 1) (sets_within u s)) (drop (i + 1) (sets_within u s)) in
@@ -130,9 +129,9 @@ module _ {lim : Limits} {u : Table} {next : ℕ} {words : List ℕ} {count : ℕ
   next_met set numbers e met =
       met ∙ ap (λ (f : ℕ → Bool). distinct eqb (met_in u f)) (e ∙ x.held.set next next_set next_at)
 
-  module _ (most : ℕ) (types : most ≡ lim.types) (few : count ≤ most) (after : List ℕ) (r : Counted)
+  module _ (most : ℕ) (types : most ≡ lim.types) (few : count ≤ most) (after : List ℕ) (r : Option ℕ)
       (put : SetsCounted most after (distinct same_numbers (x.sets ++ sets_within u next_set)) r) where
-    pub look_more : (n : ℕ) → r ≡ Count n → Standing lim u (next + 1) after n
+    pub look_more : (n : ℕ) → r ≡ Some n → Standing lim u (next + 1) after n
     look_more n e =
         let p = subst (SetsCounted most after (distinct same_numbers (x.sets ++ sets_within u next_set))) e put in
         record {
@@ -142,7 +141,7 @@ module _ {lim : Limits} {u : Table} {next : ℕ} {words : List ℕ} {count : ℕ
           held = p.2;
         }
 
-    pub look_many : r ≡ TooMany → most < length (single_type_sets lim u)
+    pub look_many : r ≡ None → most < length (single_type_sets lim u)
     look_many e =
         let sets = distinct same_numbers (x.sets ++ sets_within u next_set) in
         let many : most < length sets = subst (SetsCounted most after sets) e put in
@@ -151,8 +150,8 @@ module _ {lim : Limits} {u : Table} {next : ℕ} {words : List ℕ} {count : ℕ
 
 pub look_all : {lim : Limits} {u : Table} {next : ℕ} {words : List ℕ} {count : ℕ} → Standing lim u next words count → count ≤ next
     → (most : ℕ) → count ≤ most
-    → SetsCounted most words (single_type_sets lim u) (Count count)
+    → SetsCounted most words (single_type_sets lim u) (Some count)
 look_all {lim} {u} {next} {words} {count} x h most few =
-    subst (λ (l : List TypeSet). SetsCounted most words l (Count count))
+    subst (λ (l : List TypeSet). SetsCounted most words l (Some count))
     (found_all u next x.sets x.found (omega (arith, x.counted)))
     (x.counted, few, x.held)

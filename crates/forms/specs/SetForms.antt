@@ -107,3 +107,12 @@ single_type_table lim u = table_by_sets u (single_type_sets lim u) (met_within u
 abbrev pub pairs_within : Kind → Table → TypeSet → ℕ → Bool
 pairs_within local u = λ s. is_left u
 pairs_within single_type u = met_within u
+
+-- the sets of a kind, and the table that is made of them
+unfoldable pub sets_of : Limits → Kind → Table → List TypeSet
+sets_of lim local u = local_sets u
+sets_of lim single_type u = single_type_sets lim u
+
+unfoldable pub table_of : Limits → Kind → Table → Table
+table_of lim local u = local_table u
+table_of lim single_type u = single_type_table lim u

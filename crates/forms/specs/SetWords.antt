@@ -1,13 +1,11 @@
 -- Sets of pairs that stand in lent words, eight words each, one after the other.
-use Rattle.std.specs.Prelude.{ℕ, ◌*◌, ◌≤◌, ◌<◌, Bool, ◌≡◌, length}
+use Rattle.std.specs.Prelude.{ℕ, ◌*◌, ◌≤◌, ◌<◌, Bool, ◌≡◌, length, Option, Some, None}
 use mathlib.Core.List.{List, Memᴰ}
 use Rattle.std.proofs.Math.Option.{some as just}
 use Rattle.std.proofs.Math.ListN.{get_elem?}
 use Rattle.grammar.specs.Lists.{keep, is_in, numbers_below}
 use Rattle.grammar.specs.SingleTypeForm.{TypeSet}
 use Rattle.sets.specs.Sets.{set_of_eight_at}
-use Rattle.forms.specs.declared.set_words.Counted.{Counted}
-use Rattle.forms.specs.declared.set_words.Counted.TheVariants.{TooMany, Count}
 
 -- the set of a number
 abbrev pub set_in : List ℕ → ℕ → ℕ → Bool
@@ -25,6 +23,6 @@ pub record SetsHeld (words : List ℕ) (sets : List TypeSet) : Type 0 where
   pub ascending : (s : TypeSet) → Memᴰ s sets → Ascending s
 
 -- These sets stand in the words, and are so many, at most `most`; or they are more.
-abbrev pub SetsCounted : (most : ℕ) → List ℕ → List TypeSet → Counted → Type 0
-SetsCounted most words sets TooMany = most < length sets
-SetsCounted most words sets (Count n) = (n ≡ length sets) × (n ≤ most) × SetsHeld words sets
+abbrev pub SetsCounted : (most : ℕ) → List ℕ → List TypeSet → Option ℕ → Type 0
+SetsCounted most words sets None = most < length sets
+SetsCounted most words sets (Some n) = (n ≡ length sets) × (n ≤ most) × SetsHeld words sets

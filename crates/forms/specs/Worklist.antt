@@ -1,11 +1,9 @@
 -- Sets of pairs as they are laid down in the words, one after the other.
-use Rattle.std.specs.Prelude.{ℕ, ◌≤◌, ◌<◌, List, map, ◌≡◌, length, get_or, eqb}
+use Rattle.std.specs.Prelude.{ℕ, ◌≤◌, ◌<◌, List, map, ◌≡◌, length, get_or, eqb, Option, Some}
 use Rattle.grammar.specs.Lists.{distinct, is_in}
 use Rattle.grammar.specs.Table.{Table}
 use Rattle.grammar.specs.SingleTypeForm.{TypeSet}
 use Rattle.union.specs.PairNumbers.{rule_numbered, met_in}
-use Rattle.forms.specs.declared.set_words.Counted.{Counted}
-use Rattle.forms.specs.declared.set_words.Counted.TheVariants.{Count}
 use Rattle.forms.specs.SetForms.{pairs_labelled, met_within}
 
 -- the words have room for 128 sets, of which so many, at most `most`, stand there, and the set is one of eight words
@@ -15,8 +13,8 @@ pub record SetRoom (most : ℕ) (words : List ℕ) (count : ℕ) (set : List ℕ
   pub eight : length set ≡ 8
 
 -- at most `most` are counted
-abbrev pub Few : (most : ℕ) → Counted → Type 0
-Few most r = (n : ℕ) → r ≡ Count n → n ≤ most
+abbrev pub Few : (most : ℕ) → Option ℕ → Type 0
+Few most r = (n : ℕ) → r ≡ Some n → n ≤ most
 
 -- for each pair met in the contents of a set, in meeting order, the set of those met that share its label
 abbrev pub sets_within : Table → TypeSet → List TypeSet

@@ -10,11 +10,8 @@ ghost use Rattle.forms.specs.SetWords.{Ascending, SetsHeld, SetsCounted};
 ghost use Rattle.forms.specs.Worklist.{SetRoom, NumbersOf};
 ghost use Rattle.forms.specs.SetForms.{pairs_labelled, label_sets, set_label};
 
-use crate::set_words::{Counted, put_some, set_number};
-use basis::numbers::wide;
-use sets::eight::Set8;
-use union::fruitful::put_if;
-use union::productive::both;
+use crate::set_words::{put_some, set_number};
+use sets::set::Set8;
 use union::united::United;
 
 // A number for each label, or for each pair.
@@ -29,15 +26,12 @@ pub fn labelled_pairs(v: United, pairs: Set8, label: usize) -> Set8
     ensures { ((old add : List ℕ) (u : Table) → Views old add v u
         → member result.words 0 ≡ (λ p. is_in p (pairs_labelled u (member pairs.words 0) label))) × (length result.words ≡ 8) }
 {
-    let labels = v.labels;
-    let rules = v.rules;
     let mut set = Set8::empty();
-    let mut p: usize = 0;
-    while p < rules {
-        let own = wide(labels[p]);
-        let more = put_if(both(pairs.has(p), own == label), set, p);
-        set = more;
-        p += 1;
+    for p in 0..v.rules {
+        let own = usize::from(v.labels[p]);
+        if pairs.has(p) && own == label {
+            set = set.with(p);
+        }
     }
     set
 }
@@ -48,39 +42,32 @@ pub fn set_label(v: United, set: Set8) -> usize
     ensures { (old add : List ℕ) (u : Table) (s : TypeSet) → Views old add v u → member set.words 0 ≡ (λ p. is_in p s)
         → Ascending s → is_empty s ≡ false → result ≡ set_label u s }
 {
-    let labels = v.labels;
-    let rules = v.rules;
-    let mut p: usize = 0;
-    while p < rules {
+    for p in 0..v.rules {
         if set.has(p) {
-            return wide(labels[p]);
+            return usize::from(v.labels[p]);
         }
-        p += 1;
     }
     0
 }
 
 // One set a label, in label order, laid down in the words; more than `most` are too many.
-pub fn label_sets(most: usize, v: United, labels: usize, pairs: Set8, words: &mut [u32]) -> Counted
+pub fn label_sets(
+    most: usize,
+    v: United,
+    labels: usize,
+    pairs: Set8,
+    words: &mut [u32],
+) -> Option<usize>
     requires { (most ≤ 128) × (ViewSized v) × SetRoom most words.old 0 pairs.words }
     ensures { (old add : List ℕ) (u : Table) → Views old add v u → labels ≡ length u.labels
         → SetsCounted most words.new (label_sets u (member pairs.words 0)) result }
 {
     let mut count: usize = 0;
-    let mut l: usize = 0;
-    while l < labels {
+    for l in 0..labels {
         let set = labelled_pairs(v, pairs, l);
-        match put_some(most, words, count, set) {
-            Counted::TooMany => {
-                return Counted::TooMany;
-            }
-            Counted::Count(more) => {
-                count = more;
-            }
-        }
-        l += 1;
+        count = put_some(most, words, count, set)?;
     }
-    Counted::Count(count)
+    Some(count)
 }
 
 // For each label the number, among the sets in the words, of the set of those of some pairs that have it.
@@ -91,11 +78,9 @@ pub fn label_numbers(v: United, labels: usize, pairs: Set8, words: &[u32], count
         × ((l : ℕ) → get_or result.of l 0 ≤ 128) }
 {
     let mut of = [0u8; 256];
-    let mut l: usize = 0;
-    while l < labels {
+    for l in 0..labels {
         let set = labelled_pairs(v, pairs, l);
         of[l] = set_number(words, count, set) as u8;
-        l += 1;
     }
     Numbers { of }
 }

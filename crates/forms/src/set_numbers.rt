@@ -15,8 +15,7 @@ ghost use Rattle.forms.specs.Worklist.{NumbersOf};
 ghost use Rattle.forms.specs.SetForms.{pairs_labelled, label_left, set_number};
 
 use crate::label_sets::Numbers;
-use basis::numbers::wide;
-use sets::eight::Set8;
+use sets::set::Set8;
 use union::lists::{Lists, TypeLists};
 use union::united::United;
 
@@ -27,8 +26,7 @@ fn label_left(v: United, left: Set8, p: usize) -> usize
         × (result < 256) }
 {
     if left.has(p) {
-        let labels = v.labels;
-        return wide(labels[p]);
+        return usize::from(v.labels[p]);
     }
     0
 }
@@ -39,14 +37,9 @@ fn pair_numbers(v: United, left: Set8, numbers: Numbers) -> Numbers
     ensures { ((old add : List ℕ) (u : Table) → Views old add v u → member left.words 0 ≡ is_left u
         → NumbersOf (λ p. get_or numbers.of (label_left u p) 0) v.rules result.of) × ((p : ℕ) → get_or result.of p 0 ≤ 128) }
 {
-    let by_label = numbers.of;
-    let rules = v.rules;
     let mut of = [0u8; 256];
-    let mut p: usize = 0;
-    while p < rules {
-        let label = label_left(v, left, p);
-        of[p] = by_label[label];
-        p += 1;
+    for p in 0..v.rules {
+        of[p] = numbers.of[label_left(v, left, p)];
     }
     Numbers { of }
 }
@@ -56,14 +49,9 @@ fn renumbered(lists: Lists, numbers: Numbers) -> Lists
     ensures { (result.from ≡ lists.from) × (result.numbers ≡ map (λ p. get_or numbers.of p 0) lists.numbers) }
 {
     let from = lists.from;
-    let before = lists.numbers;
-    let of = numbers.of;
-    let mut after = [0u8; 256];
-    let mut i: usize = 0;
-    while i < 256 {
-        let p = wide(before[i]);
-        after[i] = of[p];
-        i += 1;
+    let mut after = lists.numbers;
+    for n in after.iter_mut() {
+        *n = numbers.of[usize::from(*n)];
     }
     Lists {
         from,
@@ -80,9 +68,7 @@ pub fn result_lists(v: United, lists: TypeLists, left: Set8, numbers: Numbers) -
         → ListsOf (results_of (pairs_of u) (fruitful (normalise u)) (set_number u sets pairs)) result }
 {
     let of = pair_numbers(v, left, numbers);
-    let before = lists.old;
-    let old = renumbered(before, of);
-    let added = lists.addition;
-    let addition = renumbered(added, of);
+    let old = renumbered(lists.old, of);
+    let addition = renumbered(lists.addition, of);
     TypeLists { old, addition }
 }

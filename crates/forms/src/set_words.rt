@@ -7,15 +7,7 @@ ghost use Rattle.sets.specs.Sets.{member};
 ghost use Rattle.forms.specs.SetWords.{Ascending, SetsHeld, SetsCounted};
 ghost use Rattle.forms.specs.Worklist.{SetRoom, Few};
 
-use sets::eight::Set8;
-use sets::words::{load_eight, store_eight};
-
-// How many sets stand in the words; or there are more than a table may have types.
-#[derive(Clone, Copy)]
-pub enum Counted {
-    TooMany,
-    Count(usize),
-}
+use sets::set::Set8;
 
 // The number of a set among those that stand in the words; how many they are, where it is not there.
 pub fn set_number(words: &[u32], count: usize, set: Set8) -> usize
@@ -23,53 +15,50 @@ pub fn set_number(words: &[u32], count: usize, set: Set8) -> usize
     ensures { ((sets : List TypeSet) (s : TypeSet) → SetsHeld words.now sets → count ≡ length sets
         → member set.words 0 ≡ (λ p. is_in p s) → Ascending s → result ≡ place same_numbers s sets) × (result ≤ count) }
 {
-    let mut i: usize = 0;
-    while i < count {
-        let there = load_eight(words, 8 * i);
-        if there.equal(set) {
+    for i in 0..count {
+        if Set8::load(words, 8 * i).equal(set) {
             return i;
         }
-        i += 1;
     }
-    i
+    count
 }
 
-// Lays a set down after the others; one more than `most` is too many.
-fn put_set(most: usize, words: &mut [u32], count: usize, set: Set8) -> Counted
+// Lays a set down after the others, and says how many they are then; none, where they would be more than `most`.
+fn put_set(most: usize, words: &mut [u32], count: usize, set: Set8) -> Option<usize>
     requires { (most ≤ 128) × SetRoom most words.old count set.words }
     ensures { ((sets : List TypeSet) (s : TypeSet) → SetsHeld words.old sets → count ≡ length sets
         → member set.words 0 ≡ (λ p. is_in p s) → Ascending s
         → SetsCounted most words.new (sets ++ (s ∷ [])) result) × (Few most result) }
 {
     if count == most {
-        return Counted::TooMany;
+        return None;
     }
-    store_eight(words, 8 * count, set);
-    Counted::Count(count + 1)
+    set.store(words, 8 * count);
+    Some(count + 1)
 }
 
 // The same unless it is empty.
-pub fn put_some(most: usize, words: &mut [u32], count: usize, set: Set8) -> Counted
+pub fn put_some(most: usize, words: &mut [u32], count: usize, set: Set8) -> Option<usize>
     requires { (most ≤ 128) × SetRoom most words.old count set.words }
     ensures { ((sets : List TypeSet) (s : TypeSet) → SetsHeld words.old sets → count ≡ length sets
         → member set.words 0 ≡ (λ p. is_in p s) → Ascending s
         → SetsCounted most words.new (sets ++ keep (λ t. not (is_empty t)) (s ∷ [])) result) × (Few most result) }
 {
     if set.is_empty() {
-        return Counted::Count(count);
+        return Some(count);
     }
     put_set(most, words, count, set)
 }
 
 // The same unless it is there.
-pub fn add_set(most: usize, words: &mut [u32], count: usize, set: Set8) -> Counted
+pub fn add_set(most: usize, words: &mut [u32], count: usize, set: Set8) -> Option<usize>
     requires { (most ≤ 128) × SetRoom most words.old count set.words }
     ensures { ((sets : List TypeSet) (s : TypeSet) → SetsHeld words.old sets → count ≡ length sets
         → member set.words 0 ≡ (λ p. is_in p s) → Ascending s → distinct same_numbers sets ≡ sets
         → SetsCounted most words.new (distinct same_numbers (sets ++ (s ∷ []))) result) × (Few most result) }
 {
     if set_number(words, count, set) < count {
-        return Counted::Count(count);
+        return Some(count);
     }
     put_set(most, words, count, set)
 }

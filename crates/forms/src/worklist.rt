@@ -14,15 +14,14 @@ ghost use Rattle.forms.specs.SetWords.{SetsHeld, SetsCounted};
 ghost use Rattle.forms.specs.Worklist.{Few, sets_within};
 
 use crate::label_sets::labelled_pairs;
-use crate::set_words::{Counted, add_set};
-use basis::numbers::wide;
+use crate::set_words::add_set;
 use reducing::meeting::{Met, met_in_set, set_of};
-use sets::words::load_eight;
+use sets::set::Set8;
 use union::lists::TypeLists;
 use union::united::United;
 
 // Adds the sets that the pairs met in a set give: for each pair those met that share its label, unless that set is there.
-fn add_met(most: usize, v: United, found: Met, words: &mut [u32], count: usize) -> Counted
+fn add_met(most: usize, v: United, found: Met, words: &mut [u32], count: usize) -> Option<usize>
     requires { (most ≤ 128) × (ViewSized v) × (MetHeld found) × (count ≤ most) × (1024 ≤ length words.old) }
     ensures { ((old add : List ℕ) (u : Table) (sets : List TypeSet) (s : TypeSet) → Views old add v u
         → SetsHeld words.old sets → count ≡ length sets → distinct same_numbers sets ≡ sets
@@ -30,25 +29,13 @@ fn add_met(most: usize, v: United, found: Met, words: &mut [u32], count: usize) 
         → SetsCounted most words.new (distinct same_numbers (sets ++ sets_within u s)) result) × (Few most result) }
 {
     let all = set_of(found);
-    let numbers = found.numbers;
-    let labels = v.labels;
     let mut total = count;
-    let mut i: usize = 0;
-    while i < found.count {
-        let p = wide(numbers[i]);
-        let label = wide(labels[p]);
-        let set = labelled_pairs(v, all, label);
-        match add_set(most, words, total, set) {
-            Counted::TooMany => {
-                return Counted::TooMany;
-            }
-            Counted::Count(more) => {
-                total = more;
-            }
-        }
-        i += 1;
+    for i in 0..found.count {
+        let p = usize::from(found.numbers[i]);
+        let set = labelled_pairs(v, all, usize::from(v.labels[p]));
+        total = add_set(most, words, total, set)?;
     }
-    Counted::Count(total)
+    Some(total)
 }
 
 // From the start sets to all sets: the sets from number `next` on are still to be looked into. `most` is the limit on types.
@@ -60,7 +47,7 @@ pub fn more_sets(
     lists: TypeLists,
     words: &mut [u32],
     count: usize,
-) -> Counted
+) -> Option<usize>
     requires { (most ≤ 128) × (Viewed old.now add.now v) × (BothListed lists) × (count ≤ most) × (1024 ≤ length words.old) }
     ensures { (lim : Limits) (u : Table) → most ≡ lim.types → Views old.now add.now v u
         → ListsOf (fruitful_of u) lists
@@ -69,18 +56,12 @@ pub fn more_sets(
 {
     let mut total = count;
     let mut next: usize = 0;
+    // A worklist: the end moves on as sets are added.
     while next < total {
-        let set = load_eight(words, 8 * next);
+        let set = Set8::load(words, 8 * next);
         let found = met_in_set(old, add, v, lists, set);
-        match add_met(most, v, found, words, total) {
-            Counted::TooMany => {
-                return Counted::TooMany;
-            }
-            Counted::Count(more) => {
-                total = more;
-            }
-        }
+        total = add_met(most, v, found, words, total)?;
         next += 1;
     }
-    Counted::Count(total)
+    Some(total)
 }

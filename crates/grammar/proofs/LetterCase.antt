@@ -14,7 +14,7 @@ use Rattle.grammar.specs.Tree.{Tree}
 use Rattle.grammar.specs.Table.{Table}
 use Rattle.grammar.specs.Kinds.{local, single_type}
 use Rattle.grammar.specs.Least.{by_document}
-use Rattle.grammar.specs.Outcome.{given, refused}
+use Rattle.std.specs.Prelude.{Ok, Err}
 use Rattle.grammar.specs.Fields.{field_bytes}
 use Rattle.grammar.specs.ReadTable.{read_table, label_tag, table_end_tag}
 use Rattle.grammar.specs.Membership.{lets_in}
@@ -48,7 +48,7 @@ labelled [] = field_bytes table_end_tag []
 labelled (n ∷ ns) = field_bytes label_tag n ++ labelled ns
 
 -- a label repeats another of the same letters
-repeats : read_table standard ascii_classes (labelled (ascii "card" ∷ ascii "CaRD" ∷ [])) ≡ refused Repeated
+repeats : read_table standard ascii_classes (labelled (ascii "card" ∷ ascii "CaRD" ∷ [])) ≡ Err Repeated
 unfolding read_table standard ascii_classes labelled ascii
 repeats = refl
 
@@ -57,7 +57,7 @@ no_small_a : Classes
 unfolding ascii_classes
 no_small_a = set ascii_classes 0x61 0
 
-name_before_repeat : read_table standard no_small_a (labelled (ascii "A" ∷ ascii "a" ∷ [])) ≡ refused BadName
+name_before_repeat : read_table standard no_small_a (labelled (ascii "A" ∷ ascii "a" ∷ [])) ≡ Err BadName
 unfolding read_table standard no_small_a labelled ascii
 name_before_repeat = refl
 
@@ -109,11 +109,11 @@ widened =
     starting_at0 ("list" ∷ "card" ∷ "DOOR" ∷ [])
     (rule 0 0 (choice (type 1 ∷ᶜ sequence (type 1 ∷ᶜ type 2 ∷ᶜ []ᶜ) ∷ᶜ []ᶜ)) ∷ rule 1 1 empty ∷ rule 2 2 empty ∷ [])
 
-old_spelling_local : widen standard local card_table (by_document in_capitals) ≡ given widened
+old_spelling_local : widen standard local card_table (by_document in_capitals) ≡ Ok widened
 unfolding widen standard card_table in_capitals widened
 old_spelling_local = refl
 
-old_spelling_single_type : widen standard single_type card_table (by_document in_capitals) ≡ given widened
+old_spelling_single_type : widen standard single_type card_table (by_document in_capitals) ≡ Ok widened
 unfolding widen standard card_table in_capitals widened
 old_spelling_single_type = refl
 
@@ -128,6 +128,6 @@ unused_widened =
     starting_at0 ("list" ∷ "card" ∷ "door" ∷ [])
     (rule 0 0 (choice (empty ∷ᶜ sequence (type 1 ∷ᶜ type 2 ∷ᶜ []ᶜ) ∷ᶜ []ᶜ)) ∷ rule 1 1 empty ∷ rule 2 2 empty ∷ [])
 
-unused_spelling : widen standard local unused_table (by_document in_capitals) ≡ given unused_widened
+unused_spelling : widen standard local unused_table (by_document in_capitals) ≡ Ok unused_widened
 unfolding widen standard unused_table in_capitals unused_widened
 unused_spelling = refl

@@ -9,14 +9,15 @@ use Rattle.grammar.specs.Lists.{joined_of, numbers_below}
 use Rattle.grammar.specs.Limits.{Limits, limits_for, standard}
 use Rattle.grammar.specs.Names.{ascii_classes}
 use Rattle.grammar.specs.Tree.{Tree}
-use Rattle.grammar.specs.Outcome.{Outcome, given, refused}
+use Rattle.std.specs.Prelude.{Result, Ok, Err}
+use Rattle.grammar.specs.declared.Refusal.{Refusal}
 use Rattle.grammar.specs.Answers.{number_after}
 use Rattle.grammar.specs.ReadText.{read_text}
 use Rattle.grammar.specs.WriteText.{text_bytes}
 use Rattle.grammar.specs.declared.Refusal.TheVariants.{InputTooLong}
 use Rattle.grammar.proofs.Builders.{tree}
 
-unfoldable as_text : String → Outcome Tree
+unfoldable as_text : String → Result Tree Refusal
 unfolding read_text standard ascii_classes ascii
 as_text s = read_text standard ascii_classes (ascii s)
 
@@ -29,11 +30,11 @@ unfolding tree
 a_card = tree "card" (tree "name" [] ∷ tree "code" [] ∷ [])
 
 -- A start tag and an end tag, or one tag for an empty element; white space around tags, and before the end of one.
-dense : as_text "<card><name></name><code/></card>" ≡ given a_card
+dense : as_text "<card><name></name><code/></card>" ≡ Ok a_card
 unfolding as_text a_card
 dense = refl
 
-spread : as_text "\n<card >\n\t<name\t></name >\r\n <code />\n</card\n>\n" ≡ given a_card
+spread : as_text "\n<card >\n\t<name\t></name >\r\n <code />\n</card\n>\n" ≡ Ok a_card
 unfolding as_text a_card
 spread = refl
 
@@ -105,6 +106,6 @@ long_names
 unfolding read_text standard ascii_classes ascii number_after
 long_names = refl
 
-too_long : read_text standard ascii_classes (replicate 32769 0x78) ≡ refused InputTooLong
+too_long : read_text standard ascii_classes (replicate 32769 0x78) ≡ Err InputTooLong
 unfolding read_text standard
 too_long = refl

@@ -24,7 +24,8 @@ use Rattle.grammar.specs.Membership.{lets_in}
 use Rattle.grammar.specs.KindTests.{is_local, is_single_type}
 use Rattle.grammar.specs.Kinds.{Kind, local, single_type}
 use Rattle.grammar.specs.Least.{by_table}
-use Rattle.grammar.specs.Outcome.{Outcome, given, refused}
+use Rattle.std.specs.Prelude.{Result, Ok, Err}
+use Rattle.grammar.specs.declared.Refusal.{Refusal}
 use Rattle.grammar.specs.ReadTable.{read_table}
 use Rattle.grammar.specs.ReadDocument.{read_document_file}
 use Rattle.grammar.specs.WriteTable.{table_bytes}
@@ -43,7 +44,7 @@ note : Table
 unfolding starting_at0
 note = starting_at0 ("a" ∷ []) (text_rule 0 0 empty ∷ [])
 
-note_reads : read_table standard ascii_classes note_bytes ≡ given note
+note_reads : read_table standard ascii_classes note_bytes ≡ Ok note
 unfolding read_table standard ascii_classes note_bytes note
 note_reads = refl
 
@@ -54,7 +55,7 @@ note_written = refl
 text_bytes : List ℕ
 text_bytes = 0x32 ∷ 0x00 ∷ 0x02 ∷ 0x00 ∷ 0x61 ∷ 0x3F ∷ 0x00 ∷ 0x00 ∷ []
 
-text_reads : read_document_file standard ascii_classes text_bytes ≡ given (text_tree "a" [])
+text_reads : read_document_file standard ascii_classes text_bytes ≡ Ok (text_tree "a" [])
 unfolding read_document_file standard ascii_classes text_bytes text_tree
 text_reads = refl
 
@@ -63,11 +64,11 @@ unfolding document_bytes text_bytes text_tree
 text_written = refl
 
 -- 13 in a document and 32 in a table stay foreign
-rule_in_document : read_document_file standard ascii_classes (0x13 ∷ 0x00 ∷ 0x02 ∷ 0x00 ∷ 0x61 ∷ 0x3F ∷ 0x00 ∷ 0x00 ∷ []) ≡ refused BadField
+rule_in_document : read_document_file standard ascii_classes (0x13 ∷ 0x00 ∷ 0x02 ∷ 0x00 ∷ 0x61 ∷ 0x3F ∷ 0x00 ∷ 0x00 ∷ []) ≡ Err BadField
 unfolding read_document_file standard ascii_classes
 rule_in_document = refl
 
-node_in_table : read_table standard ascii_classes (0x32 ∷ 0x00 ∷ 0x03 ∷ 0x00 ∷ 0x00 ∷ 0x01 ∷ 0x1F ∷ 0x00 ∷ 0x00 ∷ []) ≡ refused BadField
+node_in_table : read_table standard ascii_classes (0x32 ∷ 0x00 ∷ 0x03 ∷ 0x00 ∷ 0x00 ∷ 0x01 ∷ 0x1F ∷ 0x00 ∷ 0x00 ∷ []) ≡ Err BadField
 unfolding read_table standard ascii_classes
 node_in_table = refl
 
@@ -110,7 +111,7 @@ unfoldable list_with : List Rule → Table
 unfolding starting_at0
 list_with rules = starting_at0 ("list" ∷ "card" ∷ []) (rule 0 0 (type 1) ∷ rule 1 1 empty ∷ rules)
 
-by_nothing : Kind → Table → Outcome Table
+by_nothing : Kind → Table → Result Table Refusal
 unfolding widen standard
 by_nothing kind g = widen standard kind g (by_table empty_table)
 
@@ -123,25 +124,25 @@ unfolding starting_at0
 marked_card = starting_at0 ("list" ∷ "card" ∷ []) (rule 0 0 (type 1) ∷ text_rule 1 1 empty ∷ [])
 
 -- a rule 13 whose own content reduces to none marks nothing, though its pair is fruitful
-none_marks_nothing : by_nothing local (list_with (text_rule 1 1 (type 2) ∷ [])) ≡ given unmarked_card
+none_marks_nothing : by_nothing local (list_with (text_rule 1 1 (type 2) ∷ [])) ≡ Ok unmarked_card
 unfolding by_nothing list_with unmarked_card
 none_marks_nothing = refl
 
 -- any number of none, and optional none, reduce to empty and mark; equal operands drop, the mark stays
-repeated_none_marks : by_nothing local (list_with (text_rule 1 1 (any_number none) ∷ [])) ≡ given marked_card
+repeated_none_marks : by_nothing local (list_with (text_rule 1 1 (any_number none) ∷ [])) ≡ Ok marked_card
 unfolding by_nothing list_with marked_card
 repeated_none_marks = refl
 
-optional_none_marks : by_nothing single_type (list_with (text_rule 1 1 (optional (type 2)) ∷ [])) ≡ given marked_card
+optional_none_marks : by_nothing single_type (list_with (text_rule 1 1 (optional (type 2)) ∷ [])) ≡ Ok marked_card
 unfolding by_nothing list_with marked_card
 optional_none_marks = refl
 
 -- a rule 13 of the same label that is not reached marks nothing
-unreached_local : by_nothing local (list_with (text_rule 2 1 empty ∷ [])) ≡ given unmarked_card
+unreached_local : by_nothing local (list_with (text_rule 2 1 empty ∷ [])) ≡ Ok unmarked_card
 unfolding by_nothing list_with unmarked_card
 unreached_local = refl
 
-unreached_single_type : by_nothing single_type (list_with (text_rule 2 1 empty ∷ [])) ≡ given unmarked_card
+unreached_single_type : by_nothing single_type (list_with (text_rule 2 1 empty ∷ [])) ≡ Ok unmarked_card
 unfolding by_nothing list_with unmarked_card
 unreached_single_type = refl
 
@@ -152,7 +153,7 @@ through_none =
     starting_at0 ("list" ∷ "card" ∷ [])
     (rule 0 0 (choice (type 1 ∷ᶜ sequence (type 2 ∷ᶜ none ∷ᶜ []ᶜ) ∷ᶜ []ᶜ)) ∷ rule 1 1 empty ∷ text_rule 2 1 empty ∷ [])
 
-through_none_lem : by_nothing local through_none ≡ given unmarked_card
+through_none_lem : by_nothing local through_none ≡ Ok unmarked_card
 unfolding by_nothing through_none unmarked_card
 through_none_lem = refl
 
@@ -174,11 +175,11 @@ block_local =
     starting_at0 ("block" ∷ "floor" ∷ "lift" ∷ "card" ∷ [])
     (rule 0 0 (sequence (type 1 ∷ᶜ type 2 ∷ᶜ []ᶜ)) ∷ rule 1 1 (type 3) ∷ rule 2 2 (type 3) ∷ text_rule 3 3 empty ∷ [])
 
-block_local_lem : by_nothing local block_table ≡ given block_local
+block_local_lem : by_nothing local block_table ≡ Ok block_local
 unfolding by_nothing block_table block_local
 block_local_lem = refl
 
-block_single_type : by_nothing single_type block_table ≡ given block_table
+block_single_type : by_nothing single_type block_table ≡ Ok block_table
 unfolding by_nothing block_table
 block_single_type = refl
 
@@ -193,7 +194,7 @@ unfolding starting_at0
 joined =
     starting_at0 ("card" ∷ "key" ∷ "pin" ∷ []) (text_rule 0 0 (choice (type 1 ∷ᶜ type 2 ∷ᶜ []ᶜ)) ∷ rule 1 1 empty ∷ rule 2 2 empty ∷ [])
 
-join_single_type : by_nothing single_type join_table ≡ given joined
+join_single_type : by_nothing single_type join_table ≡ Ok joined
 unfolding by_nothing join_table joined
 join_single_type = refl
 

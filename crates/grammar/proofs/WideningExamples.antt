@@ -8,7 +8,7 @@ use Rattle.grammar.specs.Tree.{Tree}
 use Rattle.grammar.specs.Table.{Table, empty_table}
 use Rattle.grammar.specs.Kinds.{local, single_type}
 use Rattle.grammar.specs.Least.{by_table, by_document}
-use Rattle.grammar.specs.Outcome.{given}
+use Rattle.std.specs.Prelude.{Ok}
 use Rattle.grammar.specs.Widen.{widen}
 use Rattle.grammar.proofs.Builders.{rule, starting_at0, tree}
 
@@ -34,11 +34,11 @@ zone_table =
     ∷ rule 3 3 empty
     ∷ [])
 
-zones_local : widen standard local card_table (by_document zone_list) ≡ given zone_table
+zones_local : widen standard local card_table (by_document zone_list) ≡ Ok zone_table
 unfolding widen standard card_table zone_list zone_table
 zones_local = refl
 
-zones_single_type : widen standard single_type card_table (by_document zone_list) ≡ given zone_table
+zones_single_type : widen standard single_type card_table (by_document zone_list) ≡ Ok zone_table
 unfolding widen standard card_table zone_list zone_table
 zones_single_type = refl
 
@@ -59,7 +59,7 @@ nested_local =
     starting_at0 ("group" ∷ "card" ∷ [])
     (rule 0 0 (choice (any_number (type 1) ∷ᶜ sequence (type 1 ∷ᶜ type 0 ∷ᶜ []ᶜ) ∷ᶜ type 1 ∷ᶜ []ᶜ)) ∷ rule 1 1 empty ∷ [])
 
-groups_local : widen standard local group_table (by_document nested_list) ≡ given nested_local
+groups_local : widen standard local group_table (by_document nested_list) ≡ Ok nested_local
 unfolding widen standard group_table nested_list nested_local
 groups_local = refl
 
@@ -74,7 +74,7 @@ nested_single =
     ∷ rule 3 1 empty
     ∷ [])
 
-groups_single_type : widen standard single_type group_table (by_document nested_list) ≡ given nested_single
+groups_single_type : widen standard single_type group_table (by_document nested_list) ≡ Ok nested_single
 unfolding widen standard group_table nested_list nested_single
 groups_single_type = refl
 
@@ -97,10 +97,10 @@ two_starts_widened =
       rules = rule 0 0 empty ∷ rule 1 1 (optional (type 0)) ∷ [];
     }
 
-two_starts_local : widen standard local two_starts (by_table empty_table) ≡ given two_starts_widened
+two_starts_local : widen standard local two_starts (by_table empty_table) ≡ Ok two_starts_widened
 unfolding widen standard two_starts two_starts_widened
 two_starts_local = refl
 
-two_starts_single_type : widen standard single_type two_starts (by_table empty_table) ≡ given two_starts_widened
+two_starts_single_type : widen standard single_type two_starts (by_table empty_table) ≡ Ok two_starts_widened
 unfolding widen standard two_starts two_starts_widened
 two_starts_single_type = refl

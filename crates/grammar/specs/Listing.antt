@@ -1,5 +1,5 @@
 -- The lister's text: a table as lines of ASCII.
-use Rattle.std.specs.Prelude.{ℕ, zero, suc, ◌+◌, ◌/◌, ◌%◌, Bool, true, false, List, [], ◌∷◌, ◌++◌, get_or, ltb}
+use Rattle.std.specs.Prelude.{ℕ, zero, suc, ◌+◌, ◌/◌, ◌%◌, Bool, true, false, List, [], ◌∷◌, ◌++◌, get_or, ltb, Result, Ok, Err}
 use Rattle.grammar.specs.Ascii.{ascii}
 use Rattle.grammar.specs.Lists.{joined_of}
 use Rattle.grammar.specs.Limits.{Limits}
@@ -19,7 +19,7 @@ use Rattle.grammar.specs.Content.{
   ◌∷ᶜ◌,
 }
 use Rattle.grammar.specs.Table.{Rule, Table}
-use Rattle.grammar.specs.Outcome.{Outcome, given, refused, number, ◌>>=◌}
+use Rattle.grammar.specs.Outcome.{number, ◌>>=◌}
 use Rattle.grammar.specs.ReadTable.{read_table}
 use Rattle.grammar.specs.Documents.{read_document}
 use Rattle.grammar.specs.Kinds.{local}
@@ -102,10 +102,10 @@ unfoldable pub refusal_line : Refusal → Text
 unfolding decimal number ascii
 refusal_line r = ascii "refused " ++ decimal (number r) ++ ascii "\n"
 
-unfoldable pub outcome_text : Outcome Table → Text
+unfoldable pub outcome_text : Result Table Refusal → Text
 unfolding local_text refusal_line
-outcome_text (given g) = local_text g
-outcome_text (refused r) = refusal_line r
+outcome_text (Ok g) = local_text g
+outcome_text (Err r) = refusal_line r
 
 -- What the lister prints for the bytes of `old.tbl` and `new.doc`, widened to local; a file that cannot be read counts as no bytes.
 unfoldable pub listing : Limits → Classes → List ℕ → List ℕ → Text

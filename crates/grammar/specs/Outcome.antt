@@ -1,5 +1,5 @@
 -- The refusals with the paper's numbers, and outcomes: what was asked for, or the refusal.
-use Rattle.std.specs.Prelude.{ℕ, Bool, true, false, ◌≡◌}
+use Rattle.std.specs.Prelude.{ℕ, Bool, true, false, ◌≡◌, Result, Ok, Err}
 use Rattle.grammar.specs.declared.Refusal.{Refusal}
 use Rattle.grammar.specs.declared.Refusal.TheVariants.{
   WorkTooShort,
@@ -60,27 +60,23 @@ number BadEndTag = 17
 -- The classes do not load.
 number BadClasses = 18
 
-pub data Outcome (A : Type 0) : Type 0 where
-  refused : Refusal → Outcome A
-  given : A → Outcome A
-
 -- something was given, and it is as said
-pub record Gives {A : Type 0} (o : Outcome A) (Is : A → Type 0) : Type 0 where
+pub record Gives {A : Type 0} (o : Result A Refusal) (Is : A → Type 0) : Type 0 where
   pub thing : A
-  pub was_given : o ≡ given thing
+  pub was_given : o ≡ Ok thing
   pub is : Is thing
 
 infixl 20 ◌>>=◌ ◌>>◌
 -- go on with what was given; a refusal ends it
-abbrev pub ◌>>=◌ : {A B : Type 0} → Outcome A → (A → Outcome B) → Outcome B
-refused r >>= f = refused r
-given a >>= f = f a
+abbrev pub ◌>>=◌ : {A B : Type 0} → Result A Refusal → (A → Result B Refusal) → Result B Refusal
+Err r >>= f = Err r
+Ok a >>= f = f a
 
-abbrev pub ◌>>◌ : {A B : Type 0} → Outcome A → Outcome B → Outcome B
-refused r >> next = refused r
-given a >> next = next
+abbrev pub ◌>>◌ : {A B : Type 0} → Result A Refusal → Result B Refusal → Result B Refusal
+Err r >> next = Err r
+Ok a >> next = next
 
 -- the refusal where there is a fault
-abbrev pub turn_back : Bool → Refusal → Outcome (Unit {0})
-turn_back true r = refused r
-turn_back false r = given tt
+abbrev pub turn_back : Bool → Refusal → Result (Unit {0}) Refusal
+turn_back true r = Err r
+turn_back false r = Ok tt

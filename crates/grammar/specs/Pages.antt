@@ -1,11 +1,11 @@
 -- A table on printed pages: rows of three columns, type, name and content, and so many rows a page.
-use Rattle.std.specs.Prelude.{ℕ, ◌+◌, ◌-◌, ◌*◌, ◌/◌, ◌%◌, max, List, [], ◌++◌, map, length, get_or, take, drop, replicate}
+use Rattle.std.specs.Prelude.{ℕ, ◌+◌, ◌-◌, ◌*◌, ◌/◌, ◌%◌, max, List, [], ◌++◌, map, length, get_or, take, drop, replicate, Result, Ok, Err}
 use Rattle.grammar.specs.Ascii.{ascii}
 use Rattle.grammar.specs.Lists.{joined_of, numbers_below}
 use Rattle.grammar.specs.Limits.{Limits}
 use Rattle.grammar.specs.Names.{Classes}
 use Rattle.grammar.specs.Table.{Rule, Table}
-use Rattle.grammar.specs.Outcome.{Outcome, given, refused}
+use Rattle.grammar.specs.declared.Refusal.{Refusal}
 use Rattle.grammar.specs.ReadTable.{read_table}
 use Rattle.grammar.specs.Listing.{Text, type_text, content_text, text_mark, refusal_line}
 
@@ -100,10 +100,10 @@ unfolding page_rows joined_of
 pages l g = joined_of (λ row. row) (page_rows l g)
 
 -- What the printer prints for the bytes of `old.tbl`: the pages of the table, or one line for a refusal.
-unfoldable pub pages_text : Outcome Table → Text
+unfoldable pub pages_text : Result Table Refusal → Text
 unfolding pages page_layout refusal_line
-pages_text (given g) = pages page_layout g
-pages_text (refused r) = refusal_line r
+pages_text (Ok g) = pages page_layout g
+pages_text (Err r) = refusal_line r
 
 unfoldable pub printing : Limits → Classes → List ℕ → Text
 unfolding pages_text read_table

@@ -1,5 +1,5 @@
 -- Contents as bytes, operator first.
-use Rattle.std.specs.Prelude.{ℕ, zero, suc, Bool, true, ◌&&◌, not, List, [], ◌∷◌, ◌++◌, length, leb, ltb}
+use Rattle.std.specs.Prelude.{ℕ, zero, suc, Bool, true, ◌&&◌, not, List, [], ◌∷◌, ◌++◌, length, leb, ltb, Result, Ok, Err}
 use Rattle.std.proofs.Math.Option.{Option, none as nothing, some as just}
 use Rattle.std.proofs.Math.ListN.{get_elem?}
 use Rattle.grammar.specs.Lists.{same_numbers}
@@ -20,7 +20,8 @@ use Rattle.grammar.specs.Content.{
   operand_count,
   nesting,
 }
-use Rattle.grammar.specs.Outcome.{Outcome, given, refused, ◌>>=◌, ◌>>◌, turn_back}
+use Rattle.grammar.specs.Outcome.{◌>>=◌, ◌>>◌, turn_back}
+use Rattle.grammar.specs.declared.Refusal.{Refusal}
 use Rattle.grammar.specs.declared.Refusal.TheVariants.{BadContent, NestedTooDeep}
 
 -- 00 none; 01 empty; 02 type, then its number; 03 sequence, 04 choice, each with a count byte, then the operands; 05 any number of;
@@ -118,15 +119,15 @@ unfoldable mutual
   are_proper lim (c ∷ᶜ cs) = is_proper lim c && are_proper lim cs
 
 -- the bytes are exactly one expression
-abbrev pub whole : Parsed Content → Outcome Content
-whole nothing = refused BadContent
-whole (just (c, [])) = given c
-whole (just (c, b ∷ rest)) = refused BadContent
+abbrev pub whole : Parsed Content → Result Content Refusal
+whole nothing = Err BadContent
+whole (just (c, [])) = Ok c
+whole (just (c, b ∷ rest)) = Err BadContent
 
-unfoldable pub read_content : Limits → List ℕ → Outcome Content
+unfoldable pub read_content : Limits → List ℕ → Result Content Refusal
 unfolding expression_of is_proper nesting
 read_content lim bytes = do
   c ← whole (expression_of bytes)
   turn_back (not (is_proper lim c)) BadContent
   turn_back (ltb lim.nesting (nesting c)) NestedTooDeep
-  given c
+  Ok c

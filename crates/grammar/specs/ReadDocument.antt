@@ -1,9 +1,10 @@
 -- Document files: nodes (30, or 32 with text) parent before children, left to right, then end (3F); and which refusal comes first.
-use Rattle.std.specs.Prelude.{ℕ, zero, suc, Bool, true, false, ◌&&◌, ◌||◌, not, List, [], ◌∷◌, ◌++◌, length, eqb, leb, ltb}
+use Rattle.std.specs.Prelude.{ℕ, zero, suc, Bool, true, false, ◌&&◌, ◌||◌, not, List, [], ◌∷◌, ◌++◌, length, eqb, leb, ltb, Result, Ok, Err}
 use Rattle.grammar.specs.Limits.{Limits}
 use Rattle.grammar.specs.Names.{Classes, is_name}
 use Rattle.grammar.specs.Tree.{Head, Tree, node, Forest, []ᵗ, ◌∷ᵗ◌}
-use Rattle.grammar.specs.Outcome.{Outcome, given, refused, ◌>>=◌, ◌>>◌, turn_back}
+use Rattle.grammar.specs.Outcome.{◌>>=◌, ◌>>◌, turn_back}
+use Rattle.grammar.specs.declared.Refusal.{Refusal}
 use Rattle.grammar.specs.Fields.{Field, Fields, no_bytes, past_end, ◌then◌, fields_of}
 use Rattle.grammar.specs.ReadTable.{is_empty, bytes_left}
 use Rattle.grammar.specs.declared.Refusal.TheVariants.{InputTooLong, FieldPastEnd, BadField, BadName, BadTree, BytesAfterEnd}
@@ -58,35 +59,35 @@ bad_node lim o n =
     || is_empty o.to_come
 
 -- A node: child count byte, then a name of at least one byte. Its tag tells whether it holds text.
-unfoldable pub read_node : Limits → Classes → Opened → Field → Outcome Opened
+unfoldable pub read_node : Limits → Classes → Opened → Field → Result Opened Refusal
 unfolding is_node_tag is_name bad_node with_node
 read_node lim classes o f =
     elim f.value [
-      | [] ↦ refused BadField
+      | [] ↦ Err BadField
       | k ∷ name ↦ do
         let head : Head = record { name = name; text = eqb f.tag (node_tag true) }
         turn_back (not (is_node_tag f.tag && leb 1 (length name) && leb (length name) lim.name)) BadField
         turn_back (not (is_name classes name)) BadName
         turn_back (bad_node lim o (record { head = head; children = k })) BadTree
-        given (with_node o (record { head = head; children = k }))
+        Ok (with_node o (record { head = head; children = k }))
     ]
 
 -- the rest of a document, of which `o` is read
-unfoldable pub read_node_fields : Limits → Classes → Opened → Fields → Outcome (List Node)
+unfoldable pub read_node_fields : Limits → Classes → Opened → Fields → Result (List Node) Refusal
 unfolding read_node
-read_node_fields lim classes o no_bytes = refused FieldPastEnd
-read_node_fields lim classes o past_end = refused FieldPastEnd
+read_node_fields lim classes o no_bytes = Err FieldPastEnd
+read_node_fields lim classes o past_end = Err FieldPastEnd
 read_node_fields lim classes o (f then rest) =
     elim (eqb f.tag document_end_tag) [
       | true ↦ do
         turn_back (not (is_empty f.value)) BadField
         turn_back (not (is_empty o.to_come)) BadTree
         turn_back (bytes_left rest) BytesAfterEnd
-        given o.nodes
+        Ok o.nodes
       | false ↦ read_node lim classes o f >>= λ more. read_node_fields lim classes more rest
     ]
 
-unfoldable pub read_nodes : Limits → Classes → List ℕ → Outcome (List Node)
+unfoldable pub read_nodes : Limits → Classes → List ℕ → Result (List Node) Refusal
 unfolding read_node_fields fields_of
 read_nodes lim classes bytes = do
   turn_back (ltb lim.input (length bytes)) InputTooLong
@@ -112,10 +113,10 @@ forest_of (n ∷ ns) =
     node n.head (first_trees n.children after) ∷ᵗ other_trees n.children after
 
 -- the tree of nodes that are complete
-unfoldable pub tree_of : List Node → Outcome Tree
+unfoldable pub tree_of : List Node → Result Tree Refusal
 unfolding forest_of
-tree_of ns = elim (forest_of ns) [ []ᵗ ↦ refused BadTree | t ∷ᵗ ts ↦ given t ]
+tree_of ns = elim (forest_of ns) [ []ᵗ ↦ Err BadTree | t ∷ᵗ ts ↦ Ok t ]
 
-unfoldable pub read_document_file : Limits → Classes → List ℕ → Outcome Tree
+unfoldable pub read_document_file : Limits → Classes → List ℕ → Result Tree Refusal
 unfolding read_nodes tree_of
 read_document_file lim classes bytes = read_nodes lim classes bytes >>= tree_of

@@ -1,11 +1,12 @@
 -- XML text: start tags, end tags, empty-element tags and white space around them, and nothing else; and which refusal comes first.
-use Rattle.std.specs.Prelude.{ℕ, zero, suc, Bool, true, false, ◌&&◌, ◌||◌, not, List, [], ◌∷◌, length, eqb, leb, ltb}
+use Rattle.std.specs.Prelude.{ℕ, zero, suc, Bool, true, false, ◌&&◌, ◌||◌, not, List, [], ◌∷◌, length, eqb, leb, ltb, Result, Ok, Err}
 use Rattle.std.proofs.Math.Option.{Option, none as nothing, some as just}
 use Rattle.grammar.specs.Lists.{same_numbers}
 use Rattle.grammar.specs.Limits.{Limits}
 use Rattle.grammar.specs.Names.{Name, Classes, is_name}
 use Rattle.grammar.specs.Tree.{Tree, node, Forest, []ᵗ, ◌∷ᵗ◌, trees}
-use Rattle.grammar.specs.Outcome.{Outcome, given, refused, ◌>>=◌, ◌>>◌, turn_back}
+use Rattle.grammar.specs.Outcome.{◌>>=◌, ◌>>◌, turn_back}
+use Rattle.grammar.specs.declared.Refusal.{Refusal}
 use Rattle.grammar.specs.declared.Refusal.TheVariants.{InputTooLong, BadName, BadTree, BadText, BadEndTag}
 
 abbrev pub less_than : ℕ
@@ -157,42 +158,42 @@ unfolding full
 bad_element lim e = leb lim.nodes e.nodes || leb lim.levels (length e.opened) || full lim e
 
 -- An element: its name breaks the name rule, or is too long; then its place in the tree is tried.
-unfoldable pub read_element : Limits → Classes → Elements → Name → Outcome Elements
+unfoldable pub read_element : Limits → Classes → Elements → Name → Result Elements Refusal
 unfolding is_name bad_element opening
 read_element lim classes e name = do
   turn_back (not (is_name classes name && leb (length name) lim.name)) BadName
   turn_back (bad_element lim e) BadTree
-  given (opening name e)
+  Ok (opening name e)
 
 -- the innermost open element has this name, byte for byte
 unfoldable pub names_innermost : Name → Elements → Bool
 unfolding same_numbers
 names_innermost name e = elim e.opened [ [] ↦ false | inner ∷ outer ↦ same_numbers name inner.name ]
 
-unfoldable pub read_tag : Limits → Classes → Elements → Tag → Outcome Elements
+unfoldable pub read_tag : Limits → Classes → Elements → Tag → Result Elements Refusal
 unfolding read_element closing names_innermost
 read_tag lim classes e (start_tag name) = read_element lim classes e name
-read_tag lim classes e (empty_tag name) = read_element lim classes e name >>= λ more. given (closing more)
+read_tag lim classes e (empty_tag name) = read_element lim classes e name >>= λ more. Ok (closing more)
 read_tag lim classes e (end_tag name) = do
   turn_back (not (names_innermost name e)) BadEndTag
-  given (closing e)
+  Ok (closing e)
 
 -- The text ends: no element may be open, and the root must have come.
-unfoldable pub root_of : Elements → Outcome Tree
+unfoldable pub root_of : Elements → Result Tree Refusal
 root_of e =
     elim e.opened [
-      | [] ↦ elim e.root [ nothing ↦ refused BadTree | just t ↦ given t ]
-      | inner ∷ outer ↦ refused BadTree
+      | [] ↦ elim e.root [ nothing ↦ Err BadTree | just t ↦ Ok t ]
+      | inner ∷ outer ↦ Err BadTree
     ]
 
 -- the rest of a text, of which `e` is read
-unfoldable pub read_tags : Limits → Classes → Elements → Tags → Outcome Tree
+unfoldable pub read_tags : Limits → Classes → Elements → Tags → Result Tree Refusal
 unfolding read_tag root_of
 read_tags lim classes e no_more = root_of e
-read_tags lim classes e not_allowed = refused BadText
+read_tags lim classes e not_allowed = Err BadText
 read_tags lim classes e (tag then rest) = read_tag lim classes e tag >>= λ more. read_tags lim classes more rest
 
-unfoldable pub read_text : Limits → Classes → List ℕ → Outcome Tree
+unfoldable pub read_text : Limits → Classes → List ℕ → Result Tree Refusal
 unfolding read_tags tags_of
 read_text lim classes bytes = do
   turn_back (ltb lim.input (length bytes)) InputTooLong

@@ -1,5 +1,5 @@
 -- Widening by stages: table after table, each by a call that is handed the bytes which the call before it wrote.
-use Rattle.std.specs.Prelude.{ℕ, ◌↔◌, ◌⊎◌, ◌≡◌, take}
+use Rattle.std.specs.Prelude.{ℕ, ◌↔◌, ◌⊎◌, ◌≡◌, take, Result}
 use mathlib.Core.List.{List, [], ◌∷◌, ◌++◌, Memᴰ}
 use Rattle.grammar.specs.Limits.{Limits}
 use Rattle.grammar.specs.Names.{Classes}
@@ -7,7 +7,8 @@ use Rattle.grammar.specs.Tree.{Tree}
 use Rattle.grammar.specs.Derivation.{LetsIn}
 use Rattle.grammar.specs.Kinds.{Kind}
 use Rattle.grammar.specs.Least.{Addition, Added, AddedItself, Least}
-use Rattle.grammar.specs.Outcome.{Outcome, Gives}
+use Rattle.grammar.specs.Outcome.{Gives}
+use Rattle.grammar.specs.declared.Refusal.{Refusal}
 use Rattle.grammar.specs.ReadTable.{read_table}
 use Rattle.grammar.specs.Answers.{Numbers}
 use Rattle.grammar.specs.Calls.{After, read_addition}
@@ -50,7 +51,7 @@ module _ (lim : Limits) (classes : Classes) where
   LetsInAllOf table table' = (d : Tree) → LetInBy table' d → LetInBy table d
 
   -- what an input reads as
-  abbrev pub read_input : Input → Outcome Addition
+  abbrev pub read_input : Input → Result Addition Refusal
   read_input input = read_addition lim classes input.source input.bytes
 
   -- the input adds the document: a table all that it lets in, a document all that its sample lets in

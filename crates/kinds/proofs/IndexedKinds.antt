@@ -1,12 +1,14 @@
 -- The tests of kind, by the numbers of the rules in an index of the table.
 --
 --   types_below : a table that is held has few starts and rules, of types below 128
+--   content_order, content_within : the places of a rule's content
 --   local_at : is_local g is that no rule has the label of an earlier one
 --   pairs_at : the pairs of type and label are distinct where no rule has the pair of an earlier one
 --   none_compete_at : for a set that has just these types, none_compete g is that no two rules are rivals whose types are in the set
 --   all_rules, one_rule : every rule passes a test where that of each number does
 --   pairs_repeated, starts_compete, then_contents : the three tests of is_single_type one after the other
-use Prim.Native.Nat.{ℕ, ◌<◌}
+use Rattle.reader.specs.declared.index.TableIndex.{TableIndex}
+use Prim.Native.Nat.{ℕ, ◌<◌, ◌≤◌}
 use native.Mathlib.Omega.{arith}
 use mathlib.Core.Bool.{Bool, true, false, not, ◌&&◌}
 use mathlib.Core.List.{List, Memᴰ}
@@ -26,14 +28,14 @@ use Rattle.theory.proofs.Lists.BoolLaws.{and_left, and_right, and_intro, false_o
 use Rattle.theory.proofs.Lists.ListLaws.{differ_at, all_differ, mem_at, at_mem, at_below, below_at, in_mem, mem_in, all_of, all_at}
 use Rattle.theory.proofs.Tables.KindTests.{none_compete_lem, same_label_sym, same_pair_sym}
 use Rattle.sets.specs.Sets.{member}
-use Rattle.reader.specs.TableIndex.{rule_type, rule_label, rule_count, Indexes}
+use Rattle.reader.specs.TableIndex.{rule_type, rule_label, content_from, content_to, rule_count, Indexes}
 use Rattle.reader.specs.Held.{SomeHeld}
 use Rattle.reader.proofs.TableIndexLaws.{rule_at}
 use Rattle.reader.proofs.TableFoundLaws.{start_small, rule_found_at}
 use Rattle.kinds.specs.RulesAt.{any_below, same_label_at, same_pair_at, rivals_at, Holds, TypesBelow}
 use Rattle.kinds.proofs.BelowLaws.{one_below, below_found}
 
-pub types_below : {s index : List ℕ} → SomeHeld large s index → TypesBelow index
+pub types_below : {s : List ℕ} {index : TableIndex} → SomeHeld large s index → TypesBelow index
 types_below f =
     let x = f.held.indexes in
     record {
@@ -42,6 +44,14 @@ types_below f =
       start = start_small x f.held.within;
       rule = λ i h. (rule_found_at x f.held.within i h).type_below;
     }
+
+-- the content of each rule stands within the bytes
+module _ {s : List ℕ} {index : TableIndex} (x : SomeHeld large s index) (i : ℕ) (h : i < rule_count index) where
+  pub content_order : content_from index i ≤ content_to index i
+  content_order = (rule_at x.held.indexes i h).2.content.inside.order
+
+  pub content_within : content_to index i ≤ length s
+  content_within = (rule_at x.held.indexes i h).2.content.inside.within
 
 not_of : {a : Bool} → a ≡ false → not a ≡ true
 not_of e = ap not e
@@ -88,7 +98,7 @@ module _ {A : Type 0} (same : A → A → Bool) (same_sym : (x y : A) → same x
           (passes_or_fails (ltb i j)))
           (passes_or_fails (ltb j i))
 
-module _ {s index : List ℕ} {g : Table} (x : Indexes s index g) where
+module _ {s : List ℕ} {index : TableIndex} {g : Table} (x : Indexes s index g) where
   counted : (test : ℕ → Bool) → any_below test (length g.rules) ≡ any_below test (rule_count index)
   counted test = ap (any_below test) (sym x.rules)
 

@@ -1,5 +1,6 @@
 -- The set of types at the front of words: no type is in it once the words are cleared (`none_seen`), and the starts put in one after the
 -- other are the starts of the table (`seen_first`, `seen_next`, `seen_starts`).
+use Rattle.reader.specs.declared.index.TableIndex.{TableIndex}
 use Prim.Native.Nat.{ℕ, ◌+◌, ◌/◌, ◌<◌}
 use native.Mathlib.Omega.{arith}
 use native.Mathlib.Numerals.{add-one}
@@ -24,14 +25,14 @@ pub none_seen : (words : List ℕ) (n : ℕ) → words ≡ replicate n 0 → mem
 none_seen words n e = ap (λ (l : List ℕ). member l 0) e ∙ member_zeros n 0
 
 -- the types seen are the first i starts of the index
-abbrev pub SeenBelow : (seen index : List ℕ) → ℕ → Type 0
+abbrev pub SeenBelow : (seen : List ℕ) (index : TableIndex) → ℕ → Type 0
 SeenBelow seen index i = (k : ℕ) → member seen 0 k ≡ any_below (λ j. eqb k (start_type index j)) i
 
-pub seen_first : (seen index : List ℕ) → member seen 0 ≡ nothing → SeenBelow seen index 0
+pub seen_first : (seen : List ℕ) (index : TableIndex) → member seen 0 ≡ nothing → SeenBelow seen index 0
 unfolding any_below
 seen_first seen index none k = ap (λ (p : ℕ → Bool). p k) none
 
-pub seen_next : (seen index : List ℕ) (i : ℕ) → SeenBelow seen index i → 0 + start_type index i / 32 < length seen
+pub seen_next : (seen : List ℕ) (index : TableIndex) (i : ℕ) → SeenBelow seen index i → 0 + start_type index i / 32 < length seen
     → SeenBelow (put_at seen 0 (start_type index i)) index (i + 1)
 unfolding any_below
 seen_next seen index i w h k =
@@ -39,7 +40,7 @@ seen_next seen index i w h k =
     ∙ ap (λ (b : Bool). eqb k (start_type index i) || b) (w k)
     ∙ ap (any_below (λ j. eqb k (start_type index j))) (sym (add-one i))
 
-pub seen_starts : {s index : List ℕ} {g : Table} → Indexes s index g → (seen : List ℕ) → SeenBelow seen index (start_count index)
+pub seen_starts : {s : List ℕ} {index : TableIndex} {g : Table} → Indexes s index g → (seen : List ℕ) → SeenBelow seen index (start_count index)
     → Holds seen g.starts
 seen_starts {index = index} {g = g} x seen w k = w k ∙ same_test (any_below here (start_count index)) (is_in k g.starts) (there, back)
   where

@@ -1,6 +1,7 @@
 -- Labels by the keys of their names. Equal names have one key (`key_same`), so the labels that a chain passes over have not the name that
 -- is sought (`sought_first`, `sought_next`).
-use Prim.Native.Nat.{ℕ, ◌+◌, ◌*◌, ◌/◌, ◌%◌, ◌<◌}
+use Rattle.reader.specs.declared.index.TableIndex.{TableIndex}
+use Prim.Native.Nat.{ℕ, ◌+◌, ◌/◌, ◌%◌, ◌<◌, ◌≤◌}
 use native.Mathlib.Omega.{arith}
 use mathlib.Core.Bool.{false}
 use mathlib.Core.List.{List, [], ◌∷◌, map}
@@ -15,7 +16,8 @@ use Rattle.grammar.specs.Table.{Table}
 use Rattle.theory.proofs.Lists.BoolLaws.{false_of, passes_or_fails}
 use Rattle.theory.proofs.Trees.NameLaws.{name_small_letters}
 use Rattle.basis.proofs.LetterLaws.{small_remainder}
-use Rattle.reader.specs.TableIndex.{part, label_from, label_to, label_count, Indexes}
+use Rattle.reader.specs.TableIndex.{part, label_from, label_to, label_count, Indexes, TableIndexed}
+use Rattle.reader.proofs.TableIndexLaws.{label_at}
 use Rattle.labels.specs.Chains.{Keyed, PlaceFrom}
 use Rattle.labels.specs.LabelKeys.{name_key, label_key, LabelsChained}
 
@@ -27,11 +29,6 @@ pub key_empty : (n : Name) → length n ≡ 0 → name_key n ≡ 0
 unfolding name_key
 key_empty [] e = refl
 key_empty (x ∷ xs) e = absurd (omega arith)
-
-pub key_of : (n : Name) {a b : ℕ} → a ≡ get_or n 0 0 → b ≡ get_or n (length n / 2) 0
-    → (a % 32 + 7 * (b % 32) + length n % 64) % 64 ≡ name_key n
-unfolding name_key
-key_of n p q = cc
 
 -- the byte at a place, and the length, as the key counts them, are those of the name in small letters
 byte_key : (n : Name) (i : ℕ) → get_or (map small_letter n) i 0 % 32 ≡ get_or n i 0 % 32
@@ -49,7 +46,7 @@ small_letters_key n =
 pub key_same : (m n : Name) → SameName m n → name_key m ≡ name_key n
 key_same m n e = sym (small_letters_key m) ∙ ap name_key (name_small_letters m n e) ∙ small_letters_key n
 
-pub labels_keyed : {s index : List ℕ} {g : Table} → Indexes s index g → Keyed (label_key s index) (label_count index)
+pub labels_keyed : {s : List ℕ} {index : TableIndex} {g : Table} → Indexes s index g → Keyed (label_key s index) (label_count index)
 labels_keyed {s} {index} x =
     record {
       few = x.few_labels;
@@ -57,15 +54,23 @@ labels_keyed {s} {index} x =
     }
 
 -- the name that an index says a label has
-abbrev name_of : (s index : List ℕ) → ℕ → Name
+abbrev name_of : (s : List ℕ) (index : TableIndex) → ℕ → Name
 name_of s index i = part s (label_from index i) (label_to index i)
 
+-- the name of each label stands within the bytes
+module _ {s : List ℕ} {index : TableIndex} (x : TableIndexed s index) (i : ℕ) (h : i < label_count index) where
+  pub label_order : label_from index i ≤ label_to index i
+  label_order = (label_at x.indexes i h).2.inside.order
+
+  pub label_within : label_to index i ≤ length s
+  label_within = (label_at x.indexes i h).2.inside.within
+
 -- a name that is sought among the labels is none of those before `i`, and has the key of the name at `i`
-pub record SoughtTo (name s index : List ℕ) (i : ℕ) : Type 0 where
+pub record SoughtTo (name s : List ℕ) (index : TableIndex) (i : ℕ) : Type 0 where
   pub passed : (j : ℕ) → j < i → same_name name (name_of s index j) ≡ false
   pub found : i < label_count index → label_key s index i ≡ name_key name
 
-module _ {name s index next : List ℕ} (chain : LabelsChained s index next) where
+module _ {name s : List ℕ} {index : TableIndex} {next : List ℕ} (chain : LabelsChained s index next) where
   sought_on : {i p : ℕ} → ((j : ℕ) → j < i → same_name name (name_of s index j) ≡ false)
       → PlaceFrom (label_key s index) (label_count index) (name_key name) i p
       → SoughtTo name s index p

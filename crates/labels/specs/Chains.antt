@@ -1,4 +1,5 @@
 -- Places that have keys, chained by their keys.
+use Rattle.reader.specs.declared.index.TableIndex.{TableIndex}
 use Rattle.std.specs.Prelude.{ℕ, ◌+◌, ◌≤◌, ◌<◌, List, ◌≡◌, get_or}
 use Rattle.reader.specs.TableIndex.{rule_label, rule_count}
 
@@ -20,5 +21,5 @@ pub record ChainAre (key : ℕ → ℕ) (count : ℕ) (next : List ℕ) : Type 0
   pub first : (k : ℕ) → k ≤ 128 → PlaceFrom key count k 0 (get_or next (128 + k) 0)
 
 -- the rules of an index are chained by their labels
-abbrev pub RulesChained : (index next : List ℕ) → Type 0
+abbrev pub RulesChained : (index : TableIndex) (next : List ℕ) → Type 0
 RulesChained index next = ChainAre (rule_label index) (rule_count index) next

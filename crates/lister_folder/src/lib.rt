@@ -10,12 +10,13 @@ ghost use Rattle.writer.specs.Writing.{Put};
 use basis::ascii::ASCII;
 use basis::limits::INPUT;
 use files::read_file;
-use grammar::{Format, Size, Written};
+use grammar::{Format, Refusal, Size, Source};
 use lister_lines::limits::TEXT;
 use lister_lines::lines::{list_bytes, refusal_line};
+use results::plan::Kind;
 use std::io;
 use std::rt::Files;
-use widening::calls::widen_local_by_document;
+use widening::calls::widen;
 
 // Bytes of a file that are read: one more than it may have shows that it is too long.
 const FILE: usize = INPUT + 1;
@@ -30,17 +31,18 @@ pub fn list(old: &[u8], document: &[u8], out: &mut [u8], work: &mut [u32], text:
         text.new result }
 {
     let classes = ASCII;
-    match widen_local_by_document(
+    match widen(
         Size::Standard,
         &classes,
+        Kind::Local,
+        Source::Document(Format::DocumentFile),
         old,
-        Format::DocumentFile,
         document,
         out,
         work,
     ) {
-        Written::Refused(refusal) => refusal_line(refusal, text),
-        Written::Length(n) => list_bytes(&classes, &out[0..n], text),
+        Err(refusal) => refusal_line(refusal, text),
+        Ok(n) => list_bytes(&classes, &out[0..n], text),
     }
 }
 

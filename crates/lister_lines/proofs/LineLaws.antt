@@ -3,6 +3,7 @@
 --   name_stands, name_size : a label's name ; content_stands, content_asks, content_put, content_size : a rule's content
 --   rule_type_is, rule_type_size, rule_label_is, line_joined : a rule's line ; start_line_size : a start's line
 --   starts_next, lines_next : one line more
+use Rattle.reader.specs.declared.index.TableIndex.{TableIndex}
 use mathlib.Core.Bool.{Bool, true, false}
 use Prim.Native.Nat.{ℕ, ◌+◌, ◌-◌, ◌≤◌, ◌<◌}
 use native.Mathlib.Omega.{arith}
@@ -17,7 +18,7 @@ use Rattle.grammar.specs.Limits.{large}
 use Rattle.grammar.specs.Table.{Rule, Table}
 use Rattle.grammar.specs.ReadContent.{content_bytes}
 use Rattle.grammar.specs.WithinLimits.{ContentWithin}
-use Rattle.grammar.specs.Listing.{Text, type_text, content_text, start_line, rule_line, text_mark}
+use Rattle.grammar.specs.Listing.{type_text, content_text, start_line, rule_line, text_mark}
 use Rattle.theory.proofs.Lists.ListLaws.{at_else, joined_end}
 use Rattle.reader.specs.ContentAt.{ContentAt}
 use Rattle.reader.specs.TableIndex.{
@@ -51,7 +52,7 @@ pub joined_place : {A B : Type 0} (f : A → List B) (xs : List A) (i : ℕ) (d 
 joined_place f xs i d h =
     sym (ap (λ (n : ℕ). joined_of f (take n xs)) (add-one i) ∙ ap (joined_of f) (take-suc xs i d h) ∙ joined_end f (take i xs) (get_or xs i d))
 
-module _ {s index : List ℕ} (f : SomeHeld large s index) where
+module _ {s : List ℕ} {index : TableIndex} (f : SomeHeld large s index) where
   abbrev g : Table
   g = f.table
 

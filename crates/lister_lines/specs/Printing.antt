@@ -1,4 +1,5 @@
 -- What the printers ask and what they leave.
+use Rattle.reader.specs.declared.index.TableIndex.{TableIndex}
 use Rattle.std.specs.Prelude.{ℕ, ◌+◌, ◌≤◌, List, [], ◌∷◌, ◌++◌, ◌≡◌, length, get_or}
 use Rattle.grammar.specs.Limits.{large}
 use Rattle.grammar.specs.Content.{Contents, []ᶜ, ◌∷ᶜ◌}
@@ -35,7 +36,7 @@ pub record Printed (before : List ℕ) (at : ℕ) (bytes : Text) (next : ℕ) (a
   pub put : Put before at bytes after r.text
 
 -- This text of the table that was read is written, and it is no longer than so much.
-pub record TextPut (s index : List ℕ) (words : Table → Text) (most : ℕ) (before : List ℕ) (at : ℕ) (after : List ℕ)
+pub record TextPut (s : List ℕ) (index : TableIndex) (words : Table → Text) (most : ℕ) (before : List ℕ) (at : ℕ) (after : List ℕ)
     (r : ℕ) : Type 0 where
   pub put : (f : SomeHeld large s index) → Put before at (words f.table) after r
   pub short : r ≤ at + most

@@ -15,30 +15,27 @@ use crate::content_text::put_content;
 use crate::pieces::{put_byte, put_bytes, put_decimal, put_type};
 use basis::limits::limits_of;
 use basis::refusals::number_of;
-use grammar::{Reading, Refusal, Size};
-use reader::index::{
-    INDEX, content_from, content_to, label_from, label_to, rule_count, rule_label, rule_type,
-    start_count, start_type,
-};
+use grammar::{Refusal, Size};
+use reader::index::TableIndex;
 use reader::rules::for_text;
 use reader::tables::read_table;
 
 // A label's name.
-pub fn put_name(table: &[u8], index: &[u16; 899], label: usize, text: &mut [u8], at: usize) -> usize
+pub fn put_name(table: &[u8], index: &TableIndex, label: usize, text: &mut [u8], at: usize) -> usize
     requires { SomeHeld large table.now index.now × (label < label_count index.now)
         × (at + name_limit ≤ length text.old) }
     ensures { TextPut table.now index.now (λ g. get_or g.labels label []) name_limit text.old at
         text.new result }
 {
-    let from = label_from(index, label);
-    let to = label_to(index, label);
+    let from = index.label_from(label);
+    let to = index.label_to(label);
     put_bytes(text, at, &table[from..to])
 }
 
 // The content of a rule.
 pub fn put_rule_content(
     table: &[u8],
-    index: &[u16; 899],
+    index: &TableIndex,
     i: usize,
     text: &mut [u8],
     at: usize,
@@ -47,8 +44,8 @@ pub fn put_rule_content(
     ensures { TextPut table.now index.now (λ g. content_text (rule_numbered g i).content) 3071
         text.old at text.new result }
 {
-    let from = content_from(index, i);
-    let to = content_to(index, i);
+    let from = index.content_from(i);
+    let to = index.content_to(i);
     let ends = put_content(&table[from..to], 0, text, at);
     ends.text
 }
@@ -56,7 +53,7 @@ pub fn put_rule_content(
 // # behind the content of a rule for text.
 pub fn put_rule_mark(
     table: &[u8],
-    index: &[u16; 899],
+    index: &TableIndex,
     i: usize,
     text: &mut [u8],
     at: usize,
@@ -72,14 +69,14 @@ pub fn put_rule_mark(
 }
 
 // The line of a rule: type, name and content.
-fn put_rule_line(table: &[u8], index: &[u16; 899], i: usize, text: &mut [u8], at: usize) -> usize
+fn put_rule_line(table: &[u8], index: &TableIndex, i: usize, text: &mut [u8], at: usize) -> usize
     requires { SomeHeld large table.now index.now × (i < rule_count index.now) × (at + 3142 ≤ length text.old) }
     ensures { TextPut table.now index.now (λ g. rule_line g (rule_numbered g i)) 3142 text.old at
         text.new result }
 {
-    let typed = put_type(text, at, rule_type(index, i));
+    let typed = put_type(text, at, index.rule_type(i));
     let name = put_byte(text, typed, b' ');
-    let named = put_name(table, index, rule_label(index, i), text, name);
+    let named = put_name(table, index, index.rule_label(i), text, name);
     let content = put_byte(text, named, b' ');
     let mark = put_rule_content(table, index, i, text, content);
     let end = put_rule_mark(table, index, i, text, mark);
@@ -97,39 +94,33 @@ fn put_start_line(text: &mut [u8], at: usize, k: usize) -> usize
 }
 
 // The lines of the starts.
-fn put_starts(table: &[u8], index: &[u16; 899], text: &mut [u8], at: usize) -> usize
+fn put_starts(table: &[u8], index: &TableIndex, text: &mut [u8], at: usize) -> usize
     requires { SomeHeld large table.now index.now × (at + 1408 ≤ length text.old) }
     ensures { TextPut table.now index.now (λ g. joined_of start_line g.starts) 1408
         text.old at text.new result }
 {
-    let starts = start_count(index);
     let mut end = at;
-    let mut i: usize = 0;
-    while i < starts {
-        end = put_start_line(text, end, start_type(index, i));
-        i += 1;
+    for i in 0..index.start_count() {
+        end = put_start_line(text, end, index.start_type(i));
     }
     end
 }
 
 // The lines of the rules.
-fn put_rules(table: &[u8], index: &[u16; 899], text: &mut [u8], at: usize) -> usize
+fn put_rules(table: &[u8], index: &TableIndex, text: &mut [u8], at: usize) -> usize
     requires { SomeHeld large table.now index.now × (at + 402176 ≤ length text.old) }
     ensures { TextPut table.now index.now (λ g. joined_of (rule_line g) g.rules) 402176
         text.old at text.new result }
 {
-    let rules = rule_count(index);
     let mut end = at;
-    let mut i: usize = 0;
-    while i < rules {
+    for i in 0..index.rule_count() {
         end = put_rule_line(table, index, i, text, end);
-        i += 1;
     }
     end
 }
 
 // The text of a table that was read: a first line `local`, the starts, the rules.
-fn list_table(table: &[u8], index: &[u16; 899], text: &mut [u8]) -> usize
+fn list_table(table: &[u8], index: &TableIndex, text: &mut [u8]) -> usize
     requires { SomeHeld large table.now index.now × (404000 ≤ length text.old) }
     ensures { TextPut table.now index.now local_text 404000 text.old 0 text.new result }
 {
@@ -156,9 +147,9 @@ pub fn list_bytes(classes: &[u8], table: &[u8], text: &mut [u8]) -> usize
         text.new result }
 {
     let limits = limits_of(Size::Standard);
-    let mut index = [0u16; INDEX];
+    let mut index = TableIndex::new();
     match read_table(limits, classes, table, &mut index) {
-        Reading::Refused(refusal) => refusal_line(refusal, text),
-        Reading::Readable => list_table(table, &index, text),
+        Err(refusal) => refusal_line(refusal, text),
+        Ok(()) => list_table(table, &index, text),
     }
 }

@@ -23,7 +23,8 @@ pub fn put_bytes(text: &mut [u8], at: usize, bytes: &[u8]) -> usize
     at + bytes.len()
 }
 
-// A number, its last digit after the others.
+// A number, its last digit after the others. Each digit is put by hand: the lines are promised byte by byte, and a `write!` to a slice
+// promises none of the bytes.
 pub fn put_decimal(text: &mut [u8], at: usize, k: usize) -> usize
     requires { at + length (decimal k) ≤ length text.old }
     ensures { Put text.old at (decimal k) text.new result }

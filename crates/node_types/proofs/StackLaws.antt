@@ -11,7 +11,7 @@ use mathlib.Core.Path.{◌≡◌, refl, sym, ◌∙◌, ap, ap₂, subst, fun_ex
 use lib.ListN.{length, get_or, set, get_elem?, take, drop, length-drop, drop_of_length-le}
 use lib.Seq.{drop-cons, drop-drop, get_or-set_other}
 use Rattle.grammar.specs.Lists.{keep}
-use Rattle.grammar.specs.Outcome.{given}
+use Rattle.std.specs.Prelude.{Ok}
 use Rattle.grammar.specs.Table.{Rule, Table}
 use Rattle.grammar.specs.Tree.{Head, Tree, node, Forest, []ᵗ, ◌∷ᵗ◌}
 use Rattle.grammar.specs.ReadDocument.{Node, first_trees, other_trees, forest_of, tree_of}
@@ -20,7 +20,7 @@ use Rattle.theory.specs.Marked.{holds}
 use Rattle.theory.proofs.Lists.ListLaws.{at_below, at_else, take-map, drop-map}
 use Rattle.theory.proofs.Matching.MarkedRun.{run_matches}
 use Rattle.sets.specs.Sets.{member, words_at, store_at}
-use Rattle.sets.proofs.FourWords.{four_stored}
+use Rattle.sets.proofs.WordByWord.{four_stored}
 use Rattle.sets.proofs.SetLaws.{length-words, word_of, words_store, drop_store}
 use Rattle.documents.proofs.DocumentAnswers.{nodes_count, node_held}
 use Rattle.documents.specs.DocumentNodes.{node_at, nodes_in}
@@ -131,7 +131,7 @@ same_first e = cc
 
 -- at the end one set is left, the root's
 pub stack_root : (g : Table) (ns : List Node) (words : List ℕ) (top : ℕ) → tree_count ns ≡ 1 → Stacked g ns words top
-    → (t : Tree) → tree_of ns ≡ given t → set_at words top ≡ holds (types_of g t)
+    → (t : Tree) → tree_of ns ≡ Ok t → set_at words top ≡ holds (types_of g t)
 unfolding tree_of types_of tests_at
 stack_root g ns words top one stacked t e = go (forest_of ns) refl
   where

@@ -2,12 +2,14 @@
 -- so what the code asks of a rule is what the table says of it: its label (`asked_named`, `not_asked`), then its text (`takes_plain`,
 -- `takes_marked`), then its content (`fits_walked`, `fits_not`). A set that has the types of the first rules has, with the next rule's
 -- if it fits, those of one rule more (`types_step`), and those of all rules up to the next one of the label (`types_passed`).
+use Rattle.reader.specs.declared.index.TableIndex.{TableIndex}
 use Prim.Native.Nat.{ℕ, zero, suc, ◌+◌, ◌-◌, ◌/◌, ◌%◌, ◌^◌, ◌≤◌, ◌<◌}
 use native.Mathlib.Omega.{arith}
 use native.Mathlib.Nat.{zero-add}
 use native.Mathlib.Numerals.{add-one}
 use mathlib.Core.Bool.{Bool, true, false, not, ◌&&◌, ◌||◌, and-false, or_comm, or-false}
 use mathlib.Core.List.{List, [], ◌∷◌, ◌++◌, map, append-nil, map-append}
+use mathlib.Core.Logic.{⊎_elim}
 use mathlib.Core.Option.{some as just}
 use mathlib.Core.Path.{◌≡◌, refl, sym, ◌∙◌, ap, ap₂, subst, fun_ext}
 use lib.Bits.{bit_or}
@@ -23,7 +25,7 @@ use Rattle.grammar.specs.Table.{Rule, Table}
 use Rattle.grammar.specs.Tree.{Head}
 use Rattle.grammar.specs.Membership.{is_named, takes_text}
 use Rattle.theory.specs.Marked.{run, holds}
-use Rattle.theory.proofs.Lists.BoolLaws.{and_intro, same_test}
+use Rattle.theory.proofs.Lists.BoolLaws.{and_intro, same_test, false_of, not_both, passes_or_fails}
 use Rattle.theory.proofs.Lists.ListLaws.{
   any_of,
   at_mem,
@@ -43,12 +45,15 @@ use Rattle.sets.specs.Sets as sets
 use Rattle.sets.specs.Sets.{member, put_at, words_at, store_at, add}
 use Rattle.sets.proofs.SetLaws.{member_put, member-words, member_zeros, length-words, word_of, words_store, drop_store}
 use Rattle.reader.specs.ExprAt.{◌up_to◌, expr_at}
-use Rattle.reader.specs.TableIndex.{part, rule_label, content_from, content_to, rule_count, Inside}
+use Rattle.reader.specs.TableIndex.{part, rule_label, content_from, content_to, rule_count, start_type, start_count, Indexes}
 use Rattle.reader.specs.Held.{Held}
+use Rattle.reader.proofs.LabelSearch.{start_passes, no_start_passes}
 use Rattle.reader.proofs.TableFaults.{part_size}
 use Rattle.reader.proofs.TableFoundLaws.{RuleFound, rule_found_at, content_in_part}
 use Rattle.walks.specs.TypeSets.{set_at}
 use Rattle.walks.specs.WalkAt.{run_at, WholeAt, WalkRoom}
+use Rattle.kinds.specs.RulesAt.{any_below, TypesBelow}
+use Rattle.kinds.proofs.BelowLaws.{one_below, below_found}
 use Rattle.labels.specs.Chains.{Keyed, PlaceFrom}
 use Rattle.node_types.specs.NodeTypes.{rule_fits, types_for, PutIf}
 use Rattle.walks.proofs.WalkLaws.{run_at_lem}
@@ -85,7 +90,7 @@ unfolding takes_text
 takes_marked r h e = sym (ap (λ (b : Bool). not b || r.text) e)
 
 -- A rule of a table that is known.
-module _ {s index : List ℕ} {g : Table} (known : Held large s index g) (i : ℕ) (below : i < rule_count index) where
+module _ {s : List ℕ} {index : TableIndex} {g : Table} (known : Held large s index g) (i : ℕ) (below : i < rule_count index) where
   abbrev pub known_rule : RuleFound s index g i
   known_rule = rule_found_at known.indexes known.within i below
 
@@ -114,9 +119,6 @@ module _ {s index : List ℕ} {g : Table} (known : Held large s index g) (i : �
   module _ {from to : ℕ} (is_from : from ≡ content_from index i) (is_to : to ≡ content_to index i) where
     pub content_there : part s from to ≡ part s (content_from index i) (content_to index i)
     content_there = ap₂ (part s) is_from is_to
-
-    pub content_inside : Inside s from to
-    content_inside = rw (is_from, is_to) known_rule.at.content.inside
 
     pub content_whole : WholeAt large (part s from to)
     content_whole = subst (WholeAt large) (sym content_there) rule_whole
@@ -165,7 +167,7 @@ module _ {s index : List ℕ} {g : Table} (known : Held large s index g) (i : �
         (ap (λ (b : Bool). is_named g r.label h.name && b) fails ∙ and-false (is_named g r.label h.name)))
 
 -- Labels of a table that is known are few enough to be keys.
-module _ {s index : List ℕ} {g : Table} (known : Held large s index g) where
+module _ {s : List ℕ} {index : TableIndex} {g : Table} (known : Held large s index g) where
   pub rules_keyed : Keyed (rule_label index) (rule_count index)
   rules_keyed =
       let x = known.indexes in
@@ -252,7 +254,7 @@ module _ (g : Table) (h : Head) (tests : List (ℕ → Bool)) where
           ∙ append-nil (types_for g h tests (take i g.rules))))
 
 -- the rules up to the next one of the node's label, too: they have other labels, so none of them fits
-module _ {s index : List ℕ} {g : Table} (known : Held large s index g) (h : Head) (tests : List (ℕ → Bool)) (label : ℕ)
+module _ {s : List ℕ} {index : TableIndex} {g : Table} (known : Held large s index g) (h : Head) (tests : List (ℕ → Bool)) (label : ℕ)
     (named : label ≡ place same_name h.name g.labels) where
   abbrev of_first : ℕ → List ℕ
   of_first i = types_for g h tests (take i g.rules)
@@ -317,15 +319,26 @@ module _ (words after : List ℕ) (base k : ℕ) (small : k < 128) (room : base 
         behind = ap (drop (base + 4)) e ∙ drop-set-lt (base + 4) words (base + k / 32) _ (omega arith);
       }
 
-pub not_put : (words : List ℕ) (base k : ℕ) (flag : Bool) → flag ≡ false → PutIf words base flag k words
-not_put words base k flag f =
-    record {
-      members = sym (ap (λ (b : Bool). elim b as (λ f. ℕ → Bool) [ true ↦ add k (set_at words base) | false ↦ set_at words base ]) f);
-      behind = refl;
-    }
-
 -- a number of a set that was read in its words
 pub set_has : (words : List ℕ) (at k : ℕ) → k < 128 → member words at k ≡ set_at words at k
 set_has words at k h =
     let small : k / 32 < 4 = omega arith in
     sym (member-words words at 4 k small)
+
+-- a start is in a set where one of the index is
+pub starts_pass : (words : List ℕ) (at : ℕ) {s : List ℕ} {index : TableIndex} {g : Table} → Indexes s index g → TypesBelow index
+    → any_below (λ i. member words at (start_type index i)) (start_count index) ≡ any_pass (set_at words at) g.starts
+starts_pass words at {index = index} {g = g} x below =
+    ⊎_elim
+    (λ e. let (i, h, q) = below_found there (start_count index) e in e ∙ sym (start_passes x (set_at words at) i h (sym (same i h) ∙ q)))
+    (λ e.
+    e
+    ∙ sym (no_start_passes x (set_at words at)
+    (λ i h. sym (same i h) ∙ false_of (there i) (λ q. not_both (one_below there (start_count index) i h q) e))))
+    (passes_or_fails (any_below there (start_count index)))
+  where
+    there : ℕ → Bool
+    there i = member words at (start_type index i)
+
+    same : (i : ℕ) → i < start_count index → there i ≡ set_at words at (start_type index i)
+    same i h = set_has words at (start_type index i) (below.start i h)

@@ -1,9 +1,9 @@
 -- A document that was read, known by where its nodes stand; and what is left when all its nodes are gone through.
-use Rattle.std.specs.Prelude.{ℕ, ◌+◌, ◌≤◌, List, ◌≡◌, length, drop}
+use Rattle.reader.specs.declared.index.TableIndex.{TableIndex}
+use Rattle.std.specs.Prelude.{ℕ, ◌+◌, ◌≤◌, List, ◌≡◌, length, drop, Ok}
 use Rattle.grammar.specs.Limits.{large}
 use Rattle.grammar.specs.Table.{Table}
 use Rattle.grammar.specs.Tree.{Tree}
-use Rattle.grammar.specs.Outcome.{given}
 use Rattle.grammar.specs.ReadDocument.{tree_of}
 use Rattle.grammar.specs.Membership.{types_of}
 use Rattle.theory.specs.Marked.{holds}
@@ -29,7 +29,7 @@ pub record Brought (words : List ℕ) (from to : ℕ) (after : List ℕ) : Type 
   pub behind : drop (to + 4) after ≡ drop (to + 4) words
 
 -- the set at a word has the types of the root
-pub record RootTypes (s index d : List ℕ) (nodes : DocumentIndex) (words : List ℕ) (at : ℕ) : Type 0 where
+pub record RootTypes (s : List ℕ) (index : TableIndex) (d : List ℕ) (nodes : DocumentIndex) (words : List ℕ) (at : ℕ) : Type 0 where
   pub inside : at + 4 ≤ length words
   pub types : (g : Table) → Held large s index g
-      → (t : Tree) → tree_of (nodes_in d nodes) ≡ given t → set_at words at ≡ holds (types_of g t)
+      → (t : Tree) → tree_of (nodes_in d nodes) ≡ Ok t → set_at words at ≡ holds (types_of g t)

@@ -1,4 +1,5 @@
 -- The types that a table gives a node whose children are known, found rule by rule.
+use Rattle.reader.specs.declared.index.TableIndex.{TableIndex}
 use Rattle.std.specs.Prelude.{ℕ, ◌+◌, ◌<◌, Bool, true, false, ◌&&◌, List, [], map, ◌≡◌, get_or, drop}
 use Rattle.std.proofs.Math.Option.{some as just}
 use Rattle.std.proofs.Math.ListN.{get_elem?}
@@ -16,7 +17,7 @@ use Rattle.walks.specs.TypeSets.{set_at, tests_at}
 use Rattle.walks.specs.WalkAt.{run_at}
 
 -- for each rule of an index, whether its content matches no children
-abbrev pub NullableAre : (s index : List ℕ) → List Bool → Type 0
+abbrev pub NullableAre : (s : List ℕ) (index : TableIndex) → List Bool → Type 0
 NullableAre s index nullable =
     (i : ℕ) → i < rule_count index → get_or nullable i false ≡ run_at (part s (content_from index i) (content_to index i)) []
 
@@ -31,7 +32,7 @@ unfolding rule_fits keep
 types_for g h tests rules = map (λ (r : Rule). r.type) (keep (rule_fits g h tests) rules)
 
 -- the answer is whether the rule of a number fits, at a node that has its label and this mark of text
-abbrev pub FitsIfNamed : (s index : List ℕ) (rule : ℕ) (text : Bool) → List (ℕ → Bool) → Bool → Type 0
+abbrev pub FitsIfNamed : (s : List ℕ) (index : TableIndex) (rule : ℕ) (text : Bool) → List (ℕ → Bool) → Bool → Type 0
 FitsIfNamed s index rule text tests fits =
     (g : Table) → Held large s index g → (r : Rule) → get_elem? g.rules rule ≡ just r → (h : Head) → h.text ≡ text
     → is_named g r.label h.name ≡ true → fits ≡ rule_fits g h tests r
@@ -43,7 +44,8 @@ pub record PutIf (words : List ℕ) (base : ℕ) (flag : Bool) (k : ℕ) (after 
 
 -- the set at a word has the types of the rules that fit a node, the place of whose name among the labels is `label` and whose mark of
 -- text is `text`; the sets of its children stand behind it, and the words there are kept
-pub record TypesAre (s index : List ℕ) (label : ℕ) (text : Bool) (words : List ℕ) (base count : ℕ) (after : List ℕ) : Type 0 where
+pub record TypesAre (s : List ℕ) (index : TableIndex) (label : ℕ) (text : Bool) (words : List ℕ)
+    (base count : ℕ) (after : List ℕ) : Type 0 where
   pub types : (g : Table) → Held large s index g → (h : Head) → label ≡ place same_name h.name g.labels → h.text ≡ text
       → set_at after base ≡ holds (types_for g h (tests_at words (base + 4) count) g.rules)
   pub behind : drop (base + 4) after ≡ drop (base + 4) words

@@ -2,13 +2,12 @@
 //
 // The nodes are gone through from the last to the first, with a stack of type sets in the lent words: a node takes the sets of its
 // children from the top, in order, and leaves its own. That one is made in the words before them, and then takes the last one's place.
-ghost use Rattle.std.specs.Prelude.{List, [], ◌≡◌, ℕ, ◌+◌, ◌*◌, ◌<◌, ◌≤◌, length};
+ghost use Rattle.std.specs.Prelude.{List, [], ◌≡◌, ℕ, ◌+◌, ◌*◌, ◌<◌, ◌≤◌, length, Ok};
 ghost use Rattle.std.proofs.Math.Option.{some as just};
 ghost use Rattle.std.proofs.Math.ListN.{get_elem?};
 ghost use Rattle.grammar.specs.Limits.{large, content_limit};
 ghost use Rattle.grammar.specs.Lists.{any_pass};
 ghost use Rattle.grammar.specs.Membership.{takes_text, lets_in};
-ghost use Rattle.grammar.specs.Outcome.{given};
 ghost use Rattle.grammar.specs.ReadDocument.{tree_of};
 ghost use Rattle.grammar.specs.Table.{Rule, Table};
 ghost use Rattle.grammar.specs.Tree.{Head, Tree};
@@ -23,13 +22,12 @@ ghost use Rattle.node_types.specs.KnownDocument.{index_of, KnownNodes, Brought, 
 ghost use Rattle.node_types.specs.NodeTypes.{NullableAre, FitsIfNamed, PutIf, TypesAre};
 
 use basis::limits::CONTENT;
-use basis::numbers::{wide, wider};
 use labels::chains::chained_rules;
 use labels::label_search::{chained_labels, label_of};
-use reader::index::{content_from, content_to, rule_count, rule_type, start_count, start_type};
+use reader::index::TableIndex;
 use reader::rules::for_text;
-use sets::four::Set4;
-use sets::words::{has, put, store};
+use sets::set::Set4;
+use sets::words::{has, put};
 use walks::matching::matches;
 
 // Where the set of a node stands in the lent words; behind it stand those of so many children. And whether the node holds text.
@@ -41,23 +39,22 @@ struct NodeSets {
 }
 
 // Whether the content of each rule matches no children.
+#[tactic(auto, using(kinds::proofs::IndexedKinds::content_order, kinds::proofs::IndexedKinds::content_within))]
 fn nullable_contents(
     table: &[u8],
-    index: &[u16; 899],
+    index: &TableIndex,
     marks: &mut [u8],
     words: &[u32],
 ) -> [bool; 128]
     requires { (SomeHeld large table.now index.now) × (content_limit ≤ length marks.old) × (4 ≤ length words.now) }
     ensures { NullableAre table.now index.now result }
 {
-    let rules = rule_count(index);
+    let rules = index.rule_count();
     let mut nullable = [false; 128];
-    let mut rule: usize = 0;
-    while rule < rules {
-        let from = content_from(index, rule);
-        let to = content_to(index, rule);
+    for rule in 0..rules {
+        let from = index.content_from(rule);
+        let to = index.content_to(rule);
         nullable[rule] = matches(&table[from..to], marks, words, 0, 0);
-        rule += 1;
     }
     nullable
 }
@@ -82,21 +79,19 @@ fn content_fits(
 }
 
 // Whether a rule takes a node with this mark of text: one that holds text is taken only by a rule for text.
-fn takes_text(table: &[u8], index: &[u16; 899], rule: usize, text: bool) -> bool
+fn takes_text(table: &[u8], index: &TableIndex, rule: usize, text: bool) -> bool
     requires { (TableIndexed table.now index.now) × (rule < rule_count index.now) }
     ensures { (g : Table) (q : Rule) → Indexes table.now index.now g → get_elem? g.rules rule ≡ just q
         → (h : Head) → h.text ≡ text → result ≡ takes_text q h }
 {
-    if text {
-        return for_text(table, index, rule);
-    }
-    true
+    !text || for_text(table, index, rule)
 }
 
 // Whether a rule fits a node that has its label: it takes the node's text, and its content matches the children.
+#[tactic(auto, using(kinds::proofs::IndexedKinds::content_order, kinds::proofs::IndexedKinds::content_within))]
 fn rule_fits(
     table: &[u8],
-    index: &[u16; 899],
+    index: &TableIndex,
     rule: usize,
     nullable: bool,
     marks: &mut [u8],
@@ -114,8 +109,8 @@ fn rule_fits(
         return false;
     }
     let top = node.at + 4;
-    let from = content_from(index, rule);
-    let to = content_to(index, rule);
+    let from = index.content_from(rule);
+    let to = index.content_to(rule);
     content_fits(&table[from..to], nullable, marks, words, top, node.children)
 }
 
@@ -132,7 +127,7 @@ fn put_if(words: &mut [u32], base: usize, fits: bool, k: usize)
 // Makes the set of a node that of the types of the rules of its label that fit it.
 fn put_types(
     table: &[u8],
-    index: &[u16; 899],
+    index: &TableIndex,
     by_label: &[u8; 257],
     nullable: &[bool; 128],
     label: usize,
@@ -147,13 +142,14 @@ fn put_types(
         node.children words.new }
 {
     let base = node.at;
-    let rules = rule_count(index);
-    store(words, base, Set4::empty());
-    let mut i = wide(by_label[128 + label]);
+    let rules = index.rule_count();
+    Set4::empty().store(words, base);
+    let mut i = usize::from(by_label[128 + label]);
+    // The rules of one label follow one another by links, not by their numbers.
     while i < rules {
         let fits = rule_fits(table, index, i, nullable[i], marks, words, node);
-        put_if(words, base, fits, rule_type(index, i));
-        i = wide(by_label[i]);
+        put_if(words, base, fits, index.rule_type(i));
+        i = usize::from(by_label[i]);
     }
 }
 
@@ -173,7 +169,7 @@ fn bring(words: &mut [u32], from: usize, to: usize)
 // Goes through the nodes from the last to the first, and answers where the root's set then stands.
 fn root_types(
     table: &[u8],
-    index: &[u16; 899],
+    index: &TableIndex,
     document: &[u8],
     names: &[u16; 2048],
     sizes: &[u16; 2048],
@@ -190,13 +186,11 @@ fn root_types(
     let by_key = chained_labels(table, index);
     let by_label = chained_rules(index);
     let nullable = nullable_contents(table, index, &mut marks, words);
-    let mut i = nodes;
     let mut top = 4 * nodes;
-    while 0 < i {
-        let at = i - 1;
-        let from = wider(names[at]);
-        let to = from + wider(sizes[at]);
-        let shape = wider(shapes[at]);
+    for at in (0..nodes).rev() {
+        let from = usize::from(names[at]);
+        let to = from + usize::from(sizes[at]);
+        let shape = usize::from(shapes[at]);
         let count = shape % 256;
         let label = label_of(&document[from..to], table, index, &by_key);
         let base = top - 4;
@@ -210,32 +204,23 @@ fn root_types(
         );
         top = base + 4 * count;
         bring(words, base, top);
-        i = at;
     }
     top
 }
 
 // Whether some start type is in the set at a word.
-fn some_start(index: &[u16; 899], words: &[u32], at: usize) -> bool
+fn some_start(index: &TableIndex, words: &[u32], at: usize) -> bool
     requires { (TypesBelow index.now) × (at + 4 ≤ length words.now) }
     ensures { (s : List ℕ) (g : Table) → Indexes s index.now g
         → result ≡ any_pass (set_at words.now at) g.starts }
 {
-    let starts = start_count(index);
-    let mut start: usize = 0;
-    while start < starts {
-        if has(words, at, start_type(index, start)) {
-            return true;
-        }
-        start += 1;
-    }
-    false
+    (0..index.start_count()).any(|start| has(words, at, index.start_type(start)))
 }
 
 // Whether the table lets in the document.
 pub fn lets_in_read(
     table: &[u8],
-    index: &[u16; 899],
+    index: &TableIndex,
     document: &[u8],
     names: &[u16; 2048],
     sizes: &[u16; 2048],
@@ -247,7 +232,7 @@ pub fn lets_in_read(
         × (KnownNodes document.now (index_of names.now sizes.now shapes.now nodes)) × (8192 ≤ length words.old) }
     ensures { (g : Table) → Held large table.now index.now g → (t : Tree)
         → tree_of (nodes_in document.now (index_of names.now sizes.now shapes.now nodes))
-        ≡ given t → result ≡ lets_in g t }
+        ≡ Ok t → result ≡ lets_in g t }
 {
     let at = root_types(table, index, document, names, sizes, shapes, nodes, words);
     some_start(index, words, at)

@@ -9,7 +9,7 @@ use mathlib.Core.Logic.{◌↔◌}
 use mathlib.Core.Option.{some as just}
 use mathlib.Core.Path.{◌≡◌, refl, sym, ◌∙◌, ap}
 use lib.ListN.{length, get_or, take, drop}
-use lib.Seq.{drop-drop, get_or-drop}
+use lib.Seq.{drop-drop, get_or-drop, take-take}
 use Rattle.grammar.specs.Limits.{content_limit}
 use Rattle.grammar.specs.Lists.{any_pass}
 use Rattle.grammar.specs.Content.{Content, operands}
@@ -19,7 +19,7 @@ use Rattle.reader.proofs.ExprLaws.{expr_written, exprs_forward}
 use Rattle.operands.specs.Drafts.{Row}
 use Rattle.operands.specs.Notes.{prints, fingerprint, note, notes_of, Noted}
 use Rattle.operands.proofs.RowLaws.{exprs_uncons, exprs_none_left}
-use Rattle.operands.proofs.KeptLaws.{equal_bytes, same_there}
+use Rattle.operands.proofs.KeptLaws.{equal_bytes, same_there, row_count}
 use Rattle.operands.proofs.NoteLaws.{note_print, note_before}
 
 -- the operands from a place on are those among which an equal one is still to be found
@@ -42,9 +42,10 @@ pub record FirstAmong (s notes : List ℕ) (base k left end : ℕ) (x : Content)
   pub later : same_content x first ≡ false → (less : ℕ) → less ≡ left - 1 → StillAmong s notes base (k + 1) less end x all
 
 pub among_all : {s notes : List ℕ} {base count end : ℕ} {x : Content} {all : List Content} → Row s base count all end → Noted notes all
-    → StillAmong s notes base 0 (count - 0) end x all
-among_all {s} {base = base} {count = count} {all = all} r m =
+    → StillAmong s (take count notes) base 0 (count - 0) end x all
+among_all {s} {notes} {base} {count} {end} {all = all} r m =
     let f = r.forward in
+    let many = row_count s base count end all r in
     let z : base + 0 ≡ base = omega arith in
     let c : count - 0 ≡ count = omega arith in
     record {
@@ -52,7 +53,7 @@ among_all {s} {base = base} {count = count} {all = all} r m =
       others = all;
       inside = omega arith;
       stand = ap (λ (i : ℕ). exprs_at s i (count - 0)) z ∙ ap (exprs_at s base) c ∙ r.stand;
-      noted = m.there;
+      noted = take-take (length all) count notes (omega arith) ∙ m.there;
       same = refl;
     }
 

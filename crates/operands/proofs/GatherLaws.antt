@@ -12,7 +12,9 @@ use mathlib.Core.Option.{some as just}
 use mathlib.Core.Path.{◌≡◌, refl, sym, ◌∙◌, ap, ap₂, subst}
 use lib.ListN.{length, get_or, take, drop, drop_of_length-le}
 use lib.Seq.{take-take, take-nil, drop-cons}
+use Rattle.std.specs.Prelude.{Err, Ok, Result}
 use Rattle.grammar.specs.Content.{Content, type, operands}
+use Rattle.grammar.specs.declared.TooLarge.{TooLarge}
 use Rattle.theory.specs.Alternatives.{gathered}
 use Rattle.theory.proofs.Emission.GatheringLaws.{gather_nothing, gather_more}
 use Rattle.reader.specs.ExprAt.{◌up_to◌, expr_at}
@@ -20,7 +22,6 @@ use Rattle.reader.proofs.ExprLaws.{exprs_kept}
 use Rattle.union.specs.Walks.{list_of_type}
 use Rattle.operands.specs.declared.drafts.OperandRow.{OperandRow}
 use Rattle.operands.specs.declared.drafts.Gathering.{Gathering}
-use Rattle.operands.specs.declared.drafts.Gathering.TheVariants.{TooLarge, Upto}
 use Rattle.operands.specs.Drafts.{Row, Kept, Newest, TooWide, OperandsAdded, Gathers, GathersWith}
 use Rattle.operands.proofs.WideLaws.{wide_gathered}
 use Rattle.operands.proofs.NoteLaws.{no_upto}
@@ -45,11 +46,11 @@ abbrev pub newest_of : (d d' : List ℕ) (row : OperandRow) (fresh : ℕ) (x : C
 newest_of d d' row fresh x e l k s =
     record { kept = kept_of d d' row.base row.count row.end e l k; newest = x; stands = s }
 
-pub gathers_from : (d d' d'' : List ℕ) (base old limit next : ℕ) (ds : List Content) (r : Gathering) → take old d' ≡ take old d
+pub gathers_from : (d d' d'' : List ℕ) (base old limit next : ℕ) (ds : List Content) (r : Result Gathering TooLarge) → take old d' ≡ take old d
     → Gathers d' d'' base old limit next ds r → Gathers d d'' base old limit next ds r
 unfolding Gathers
-gathers_from d d' d'' base old limit next ds TooLarge e g = g
-gathers_from d d' d'' base old limit next ds (Upto n count end) e g = (
+gathers_from d d' d'' base old limit next ds (Err over) e g = g
+gathers_from d d' d'' base old limit next ds (Ok got) e g = (
   g.0,
   record { row = g.1.row; fits = g.1.fits; grows = g.1.grows; keeps = g.1.keeps ∙ e },
 )
@@ -58,11 +59,11 @@ gathers_from d d' d'' base old limit next ds (Upto n count end) e g = (
 pub keeps_before : (d d' : List ℕ) (m n : ℕ) → m ≤ n → take n d' ≡ take n d → take m d' ≡ take m d
 keeps_before d d' m n h e = sym (take-take m n d' h) ∙ ap (take m) e ∙ take-take m n d h
 
-pub gathers_then : (d d' d'' : List ℕ) (base old middle limit next : ℕ) (ds : List Content) (r : Gathering) → old ≤ middle
+pub gathers_then : (d d' d'' : List ℕ) (base old middle limit next : ℕ) (ds : List Content) (r : Result Gathering TooLarge) → old ≤ middle
     → take old d' ≡ take old d → Gathers d' d'' base middle limit next ds r → Gathers d d'' base old limit next ds r
 unfolding Gathers
-gathers_then d d' d'' base old middle limit next ds TooLarge h e g = g
-gathers_then d d' d'' base old middle limit next ds (Upto n count end) h e g =
+gathers_then d d' d'' base old middle limit next ds (Err over) h e g = g
+gathers_then d d' d'' base old middle limit next ds (Ok got) h e g =
     let more = g.1.grows in (
       g.0,
       record {
@@ -74,7 +75,7 @@ gathers_then d d' d'' base old middle limit next ds (Upto n count end) h e g =
     )
 
 pub nothing_new : (d : List ℕ) (base count end limit n next : ℕ) (k : Kept d base count end) (xs : List Content) → n ≡ next
-    → end ≤ limit → gathered k.list xs ≡ k.list → Gathers d d base end limit next (gathered k.list xs) (Upto n count end)
+    → end ≤ limit → gathered k.list xs ≡ k.list → Gathers d d base end limit next (gathered k.list xs) (Ok (record { next = n; count = count; end = end }))
 unfolding Gathers
 nothing_new d base count end limit n next k xs same_next h same = (
   same_next,
@@ -87,7 +88,7 @@ nothing_new d base count end limit n next k xs same_next h same = (
 )
 
 pub nothing_added : (d : List ℕ) (base count end limit n next : ℕ) (k : Kept d base count end) (xs : List Content) → n ≡ next
-    → end ≤ limit → xs ≡ [] → Gathers d d base end limit next (gathered k.list xs) (Upto n count end)
+    → end ≤ limit → xs ≡ [] → Gathers d d base end limit next (gathered k.list xs) (Ok (record { next = n; count = count; end = end }))
 nothing_added d base count end limit n next k xs same_next h e =
     nothing_new d base count end limit n next k xs same_next h
     (ap (gathered k.list) e ∙ gather_nothing k.list k.row.apart)
@@ -123,7 +124,7 @@ pub first_wide : (room : ℕ) (ds xs ys zs : List Content) → zs ≡ xs ++ ys �
 first_wide room ds xs ys zs e h =
     subst (λ (l : List Content). TooWide room (gathered ds l)) (sym e) (wide_gathered room ds xs ys h)
 
-pub then_others : (d d' d'' : List ℕ) (base old middle limit next : ℕ) (ds xs ys zs : List Content) (r : Gathering) → zs ≡ xs ++ ys
+pub then_others : (d d' d'' : List ℕ) (base old middle limit next : ℕ) (ds xs ys zs : List Content) (r : Result Gathering TooLarge) → zs ≡ xs ++ ys
     → old ≤ middle → take old d' ≡ take old d
     → Gathers d' d'' base middle limit next (gathered (gathered ds xs) ys) r
     → Gathers d d'' base old limit next (gathered ds zs) r
@@ -134,31 +135,31 @@ then_others d d' d'' base old middle limit next ds xs ys zs r e h k g =
     g)
 
 -- what an answer says, once it is known which it is
-pub told_large : (d d' : List ℕ) (base old limit next : ℕ) (ds : List Content) (r : Gathering) → r ≡ TooLarge
+pub told_large : (d d' : List ℕ) (base old limit next : ℕ) (ds : List Content) (r : Result Gathering TooLarge) → r ≡ Err (record {})
     → Gathers d d' base old limit next ds r → TooWide (limit - base) ds
 unfolding Gathers
-told_large d d' base old limit next ds r e g = subst (λ (x : Gathering). Gathers d d' base old limit next ds x) e g
+told_large d d' base old limit next ds r e g = subst (λ (x : Result Gathering TooLarge). Gathers d d' base old limit next ds x) e g
 
-pub told_upto : (d d' : List ℕ) (base old limit next : ℕ) (ds : List Content) (r : Gathering) (n count end : ℕ) → r ≡ Upto n count end
+pub told_upto : (d d' : List ℕ) (base old limit next : ℕ) (ds : List Content) (r : Result Gathering TooLarge) (n count end : ℕ) → r ≡ Ok (record { next = n; count = count; end = end })
     → Gathers d d' base old limit next ds r → (n ≡ next) × OperandsAdded d d' base old ds limit count end
 unfolding Gathers
 told_upto d d' base old limit next ds r n count end e g =
-    subst (λ (x : Gathering). Gathers d d' base old limit next ds x) e g
+    subst (λ (x : Result Gathering TooLarge). Gathers d d' base old limit next ds x) e g
 
-pub gathers_as : (d d' : List ℕ) (base old limit n next : ℕ) (ds xs ys : List Content) (r : Gathering) → n ≡ next → xs ≡ ys
+pub gathers_as : (d d' : List ℕ) (base old limit n next : ℕ) (ds xs ys : List Content) (r : Result Gathering TooLarge) → n ≡ next → xs ≡ ys
     → Gathers d d' base old limit n (gathered ds xs) r → Gathers d d' base old limit next (gathered ds ys) r
 gathers_as d d' base old limit n next ds xs ys r e f g =
     subst (λ (m : ℕ). Gathers d d' base old limit m (gathered ds ys) r) e
     (subst (λ (l : List Content). Gathers d d' base old limit n (gathered ds l) r) f g)
 
 pub large_told : (d d' : List ℕ) (base old limit next : ℕ) (ds : List Content) → TooWide (limit - base) ds
-    → Gathers d d' base old limit next ds TooLarge
+    → Gathers d d' base old limit next ds (Err (record {}))
 unfolding Gathers
 large_told d d' base old limit next ds h = h
 
 -- the same answers with what is noted of the operands
 module _ {Holds : List Content → Type 0} where
-  pub with_as : {d d' : List ℕ} {row : OperandRow} {n next : ℕ} {r : Gathering} (ds xs ys : List Content) → n ≡ next → xs ≡ ys
+  pub with_as : {d d' : List ℕ} {row : OperandRow} {n next : ℕ} {r : Result Gathering TooLarge} (ds xs ys : List Content) → n ≡ next → xs ≡ ys
       → GathersWith Holds d d' row n (gathered ds xs) r → GathersWith Holds d d' row next (gathered ds ys) r
   with_as {d} {d'} {row} {n} {next} {r} ds xs ys e f g =
       record {
@@ -166,13 +167,13 @@ module _ {Holds : List Content → Type 0} where
         noted = λ u. subst (λ (l : List Content). Holds (gathered ds l)) f (g.noted u);
       }
 
-  pub with_from : {d d' d'' : List ℕ} {row : OperandRow} {next : ℕ} {r : Gathering} (ds : List Content) → take row.end d' ≡ take row.end d
+  pub with_from : {d d' d'' : List ℕ} {row : OperandRow} {next : ℕ} {r : Result Gathering TooLarge} (ds : List Content) → take row.end d' ≡ take row.end d
       → GathersWith Holds d' d'' row next ds r → GathersWith Holds d d'' row next ds r
   with_from {d} {d'} {d''} {row} {next} {r} ds e g =
       record { gathers = gathers_from d d' d'' row.base row.end row.limit next ds r e g.gathers; noted = g.noted }
 
   pub with_none : {d : List ℕ} {row : OperandRow} {n next : ℕ} (k : Kept d row.base row.count row.end) (xs : List Content) → n ≡ next
-      → row.end ≤ row.limit → xs ≡ [] → Holds k.list → GathersWith Holds d d row next (gathered k.list xs) (Upto n row.count row.end)
+      → row.end ≤ row.limit → xs ≡ [] → Holds k.list → GathersWith Holds d d row next (gathered k.list xs) (Ok (record { next = n; count = row.count; end = row.end }))
   with_none {d} {row} {n} {next} k xs e h none y =
       record {
         gathers = nothing_added d row.base row.count row.end row.limit n next k xs e h none;
@@ -180,6 +181,6 @@ module _ {Holds : List Content → Type 0} where
       }
 
   pub with_large : {d d' : List ℕ} {row : OperandRow} {next : ℕ} (ds : List Content) → TooWide (row.limit - row.base) ds
-      → GathersWith Holds d d' row next ds TooLarge
+      → GathersWith Holds d d' row next ds (Err (record {}))
   with_large {d} {d'} {row} {next} ds h =
       record { gathers = large_told d d' row.base row.end row.limit next ds h; noted = λ u. no_upto u }

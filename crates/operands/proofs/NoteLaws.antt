@@ -11,10 +11,12 @@ use mathlib.Core.List.{List, [], ◌∷◌, ◌++◌, append-nil}
 use mathlib.Core.Path.{◌≡◌, refl, sym, ◌∙◌, ap, ap₂}
 use lib.ListN.{length, get_or, take, drop, set, length-append, length-set, length-take, length-drop, drop_of_length-le}
 use lib.Seq.{length-take-le, take_all, drop-cons, take-take, take-append-le, take-suc-set, take_at, drop_at}
+use Rattle.std.specs.Prelude.{Result, Err, Ok}
+use Rattle.grammar.specs.declared.TooLarge.{TooLarge}
+use Rattle.operands.specs.declared.drafts.Gathering.{Gathering}
 use Rattle.grammar.specs.Limits.{operand_limit}
 use Rattle.grammar.specs.Content.{Content, operands}
 use Rattle.grammar.specs.ReadContent.{content_bytes, operand_bytes}
-use Rattle.operands.specs.declared.drafts.Gathering.TheVariants.{TooLarge, Upto}
 use Rattle.operands.specs.Notes.{prints, folded, fingerprint, note, notes_of, Noted}
 
 folded_small : (h : ℕ) (bs : List ℕ) → h < prints → folded h bs < prints
@@ -28,22 +30,17 @@ print_small print bs e =
     let h : fingerprint bs < prints = folded_small 0 (take 16 bs) (omega arith) in
     omega arith
 
--- the fingerprint is folded byte by byte, up to the sixteenth
-module _ (d : List ℕ) (i to h : ℕ) where
-  pub fold_next : i < to → to ≤ length d
-      → folded ((h * 31 + get_or d i 0) % prints) (take (to - (i + 1)) (drop (i + 1) d)) ≡ folded h (take (to - i) (drop i d))
+-- the fingerprint is folded byte by byte
+module _ (bytes : List ℕ) (i h : ℕ) where
+  pub fold_next : i < length bytes → folded ((h * 31 + get_or bytes i 0) % prints) (drop (i + 1) bytes) ≡ folded h (drop i bytes)
   unfolding folded
-  fold_next k l =
-      let z : suc (to - (i + 1)) ≡ to - i = omega arith in
-      ap (λ (n : ℕ). folded ((h * 31 + get_or d i 0) % prints) (take (to - (i + 1)) (drop n d))) (add-one i)
-      ∙ sym (ap (λ (l : List ℕ). folded h (take (suc (to - (i + 1))) l)) (drop-cons d i 0 (omega arith)))
-      ∙ ap (λ (n : ℕ). folded h (take n (drop i d))) z
+  fold_next k =
+      ap (λ (n : ℕ). folded ((h * 31 + get_or bytes i 0) % prints) (drop n bytes)) (add-one i)
+      ∙ sym (ap (folded h) (drop-cons bytes i 0 k))
 
-  pub fold_done : to ≤ i → folded h (take (to - i) (drop i d)) ≡ h
+  pub fold_done : length bytes ≤ i → folded h (drop i bytes) ≡ h
   unfolding folded
-  fold_done k =
-      let z : to - i ≡ 0 = omega arith in
-      ap (λ (n : ℕ). folded h (take n (drop i d))) z
+  fold_done k = ap (folded h) (drop_of_length-le bytes k)
 
 pub print_short : (l : List ℕ) (n : ℕ) → n < 16 → folded 0 (take n l) ≡ fingerprint (take n l)
 unfolding fingerprint
@@ -150,5 +147,5 @@ module _ (n : ℕ) (l : List ℕ) (h : n ≤ length l) where
         let b = length-append (take n l) (part ++ drop (length l - n) (drop n l)) in
         omega arith
 
-pub no_upto : {n count end : ℕ} {A : Type 0} → TooLarge ≡ Upto n count end → A
+pub no_upto : {over : TooLarge} {g : Gathering} {A : Type 0} → ◌≡◌ {A = Result Gathering TooLarge} (Err over) (Ok g) → A
 no_upto e = let z : ◌≡◌ {A = ℕ} 0 1 = cc e in absurd (omega arith)

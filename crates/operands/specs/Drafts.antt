@@ -1,16 +1,16 @@
 -- The draft in which a content is made. What stands in it is said by reading it back with `expr_at` and `exprs_at`; the records that
 -- hold a content or a list are what a caller has to show once, and an answer is stated for each such record.
-use Rattle.std.specs.Prelude.{ℕ, ◌+◌, ◌-◌, ◌*◌, ◌≤◌, ◌<◌, List, ◌≡◌, length, take}
+use Rattle.std.specs.Prelude.{ℕ, ◌+◌, ◌-◌, ◌*◌, ◌≤◌, ◌<◌, List, ◌≡◌, length, take, Err, Ok, Result}
 use Rattle.std.proofs.Math.Option.{some as just}
 use Rattle.grammar.specs.Limits.{content_limit, operand_limit, nesting_limit}
 use Rattle.grammar.specs.Content.{Content, Contents, operands}
 use Rattle.grammar.specs.ReadContent.{operand_bytes}
 use Rattle.grammar.specs.Size.{widest_of}
+use Rattle.grammar.specs.declared.TooLarge.{TooLarge}
 use Rattle.theory.specs.Alternatives.{Gathered}
 use Rattle.reader.specs.ExprAt.{◌up_to◌, expr_at, exprs_at}
 use Rattle.operands.specs.declared.drafts.OperandRow.{OperandRow}
 use Rattle.operands.specs.declared.drafts.Gathering.{Gathering}
-use Rattle.operands.specs.declared.drafts.Gathering.TheVariants.{TooLarge, Upto}
 
 -- A content, and two bytes before its operands.
 abbrev pub headed_length : ℕ
@@ -61,20 +61,20 @@ pub record OperandsAdded (before after : List ℕ) (base old : ℕ) (ds : List C
   pub keeps : take old after ≡ take old before
 
 -- the answer of a gathering: these operands stand in the draft, and the source goes on at `next`; or they do not fit
-unfoldable pub Gathers : List ℕ → List ℕ → ℕ → ℕ → ℕ → ℕ → List Content → Gathering → Type 0
-Gathers before after base old limit next ds TooLarge = TooWide (limit - base) ds
-Gathers before after base old limit next ds (Upto n count end) = (n ≡ next) × OperandsAdded before after base old ds limit count end
+unfoldable pub Gathers : List ℕ → List ℕ → ℕ → ℕ → ℕ → ℕ → List Content → Result Gathering TooLarge → Type 0
+Gathers before after base old limit next ds (Err over) = TooWide (limit - base) ds
+Gathers before after base old limit next ds (Ok g) = (g.next ≡ next) × OperandsAdded before after base old ds limit g.count g.end
 
 -- the same, and where the operands fit, what is noted of them
 pub record GathersWith (Holds : List Content → Type 0) (before after : List ℕ) (row : OperandRow) (next : ℕ) (ds : List Content)
-    (r : Gathering) : Type 0 where
+    (r : Result Gathering TooLarge) : Type 0 where
   pub gathers : Gathers before after row.base row.end row.limit next ds r
-  pub noted : {n count end : ℕ} → r ≡ Upto n count end → Holds ds
+  pub noted : {g : Gathering} → r ≡ Ok g → Holds ds
 
 -- of a whole row: these operands stand in the draft, within the limit; or they do not fit
-unfoldable pub GathersIn : List ℕ → OperandRow → List Content → Gathering → Type 0
-GathersIn draft row ds TooLarge = TooWide (row.limit - row.base) ds
-GathersIn draft row ds (Upto next count end) = Row draft row.base count ds end × (end ≤ row.limit)
+unfoldable pub GathersIn : List ℕ → OperandRow → List Content → Result Gathering TooLarge → Type 0
+GathersIn draft row ds (Err over) = TooWide (row.limit - row.base) ds
+GathersIn draft row ds (Ok g) = Row draft row.base g.count ds g.end × (g.end ≤ row.limit)
 
 -- one finished content stands at a place, and the bytes before it are kept
 pub record Finished (before after : List ℕ) (start : ℕ) (c : Content) (end : ℕ) : Type 0 where

@@ -1,6 +1,5 @@
 // The draft in which a content is made: a list of operands that stand in it one after the other, no two byte-equal.
 ghost use Rattle.std.specs.Prelude.{◌+◌, ◌-◌, ◌/◌, ◌%◌, ◌≤◌, true, false, [], ◌∷◌, ◌↔◌, ◌≡◌, length, take, drop};
-ghost use Rattle.std.proofs.Math.Seq.{paste};
 ghost use Rattle.grammar.specs.Limits.{content_limit};
 ghost use Rattle.grammar.specs.Lists.{any_pass};
 ghost use Rattle.grammar.specs.Content.{choice_of};
@@ -10,18 +9,15 @@ ghost use Rattle.operands.specs.Drafts.{Kept, Newest, Finished, GathersWith};
 ghost use Rattle.operands.specs.Notes.{prints, folded, fingerprint, Noted};
 
 use crate::limits::{FOLD, HEAD, OPERANDS, PRINTED, PRINTS};
-use basis::numbers::wide;
+use grammar::TooLarge;
 use reader::operators::{CHOICE_BYTE, NONE_BYTE};
 
-// The operands after gathering, and where the source goes on; or they do not fit.
+// The operands after gathering: how many there are and where they end, and where the source goes on.
 #[derive(Clone, Copy)]
-pub enum Gathering {
-    TooLarge,
-    Upto {
-        next: usize,
-        count: usize,
-        end: usize,
-    },
+pub struct Gathering {
+    pub next: usize,
+    pub count: usize,
+    pub end: usize,
 }
 
 // The operands of an expression: where the first begins in the draft, how many there are, where they end, and where they must end.
@@ -33,31 +29,14 @@ pub struct OperandRow {
     pub limit: usize,
 }
 
-// The same bytes at two places.
-fn same_bytes(draft: &[u8], a: usize, b: usize, n: usize) -> bool
-    requires { (a + n ≤ length draft.now) × (b + n ≤ length draft.now) }
-    ensures { (result ≡ true) ↔ (take n (drop a draft.now) ≡ take n (drop b draft.now)) }
-{
-    let mut i = 0usize;
-    while i < n {
-        if draft[a + i] != draft[b + i] {
-            return false;
-        }
-        i += 1;
-    }
-    true
-}
-
 // Bytes folded into a fingerprint.
 fn fold_bytes(draft: &[u8], from: usize, to: usize) -> usize
     requires { (from ≤ to) × (to ≤ length draft.now) }
     ensures { result ≡ folded 0 (take (to - from) (drop from draft.now)) }
 {
     let mut print = 0usize;
-    let mut i = from;
-    while i < to {
-        print = (print * FOLD + wide(draft[i])) % PRINTS;
-        i += 1;
+    for byte in &draft[from..to] {
+        print = (print * FOLD + usize::from(*byte)) % PRINTS;
     }
     print
 }
@@ -81,10 +60,8 @@ fn is_same(draft: &[u8], base: usize, note: u32, end: usize, fresh: usize, print
         ≡ take (fresh - end) (drop end draft.now))) }
 {
     let word = note as usize;
-    if word / PRINTS != print {
-        return false;
-    }
-    same_bytes(draft, base + word % PRINTS, end, fresh - end)
+    let from = base + word % PRINTS;
+    word / PRINTS == print && draft[from..from + (fresh - end)] == draft[end..fresh]
 }
 
 // Whether the expression after the operands, of this fingerprint, is one of them.
@@ -94,13 +71,10 @@ fn is_there(draft: &[u8], row: OperandRow, fresh: usize, print: usize, notes: &[
     ensures { (q : Newest draft.now row fresh) → Noted notes.now q.kept.list
         → result ≡ any_pass (same_content q.newest) q.kept.list }
 {
-    let count = row.count;
-    let mut k = 0usize;
-    while k < count {
-        if is_same(draft, row.base, notes[k], row.end, fresh, print) {
+    for note in &notes[..row.count] {
+        if is_same(draft, row.base, *note, row.end, fresh, print) {
             return true;
         }
-        k += 1;
     }
     false
 }
@@ -113,7 +87,7 @@ pub fn keep(
     next: usize,
     print: usize,
     notes: &mut [u32],
-) -> Gathering
+) -> Result<Gathering, TooLarge>
     requires { ((q : Newest draft.now row fresh) × (any_pass (same_content q.newest) q.kept.list ≡ false)
         × Noted notes.old q.kept.list) × (row.end ≤ row.limit) × (row.limit ≤ row.base + content_limit)
         × (print ≡ fingerprint (take (fresh - row.end) (drop row.end draft.now))) }
@@ -123,18 +97,18 @@ pub fn keep(
         (gathered q.kept.list (q.newest ∷ [])) result }
 {
     if row.limit < fresh {
-        return Gathering::TooLarge;
+        return Err(TooLarge);
     }
     let count = row.count;
     if OPERANDS <= count {
-        return Gathering::TooLarge;
+        return Err(TooLarge);
     }
     notes[count] = (print * PRINTS + (row.end - row.base)) as u32;
-    Gathering::Upto {
+    Ok(Gathering {
         next,
         count: count + 1,
         end: fresh,
-    }
+    })
 }
 
 // The same, or drops it if it is one of them.
@@ -144,7 +118,7 @@ pub fn settle(
     fresh: usize,
     next: usize,
     notes: &mut [u32],
-) -> Gathering
+) -> Result<Gathering, TooLarge>
     requires { ((q : Newest draft.now row fresh) × Noted notes.old q.kept.list) × (row.end ≤ row.limit)
         × (row.limit ≤ row.base + content_limit) }
     ensures { (q : Newest draft.now row fresh) → Noted notes.old q.kept.list
@@ -153,26 +127,13 @@ pub fn settle(
 {
     let print = print_of(draft, row.end, fresh);
     if is_there(draft, row, fresh, print, notes) {
-        return Gathering::Upto {
+        return Ok(Gathering {
             next,
             count: row.count,
             end: row.end,
-        };
+        });
     }
     keep(draft, row, fresh, next, print, notes)
-}
-
-// The bytes up to `end`, from two places after `start` on, moved down to `start`.
-fn move_down(draft: &mut [u8], start: usize, end: usize)
-    requires { (start + 2 ≤ end) × (end ≤ length draft.old) }
-    ensures { draft.new
-        ≡ paste draft.old start (drop (start + 2) draft.old) (end - (start + 2)) }
-{
-    let mut i = start + HEAD;
-    while i < end {
-        draft[i - HEAD] = draft[i];
-        i += 1;
-    }
 }
 
 // Makes one content of the operands that stand two places after `start`: none, the one operand, or the choice of them.
@@ -186,7 +147,7 @@ pub fn finish(draft: &mut [u8], start: usize, count: usize, end: usize) -> usize
         return start + 1;
     }
     if count == 1 {
-        move_down(draft, start, end);
+        draft.copy_within(start + HEAD..end, start);
         return end - HEAD;
     }
     draft[start] = CHOICE_BYTE;

@@ -1,33 +1,21 @@
--- The lines of a column, byte by byte:
---   within_at : a byte within a list ; product_small : a line begins before so many bytes
---   line_at : the byte of a line at a place ; line_next, line_whole, line_end : a line written byte by byte
-use Prim.Native.Nat.{ℕ, zero, suc, ◌+◌, ◌-◌, ◌*◌, ◌≤◌, ◌<◌}
+-- The lines of a column:
+--   product_small : a line begins before so many bytes
+--   piece_is, line_filled, line_end : the bytes of a line, the spaces behind them, and where it ends
+use Prim.Native.Nat.{ℕ, ◌+◌, ◌-◌, ◌*◌, ◌≤◌, ◌<◌, min}
 use native.Mathlib.Omega.{arith}
 use native.Mathlib.Nat.{mul-le-mul}
-use native.Mathlib.Numerals.{add-one}
-use mathlib.Core.List.{List, [], ◌∷◌, ◌++◌}
-use mathlib.Core.Path.{◌≡◌, refl, sym, ◌∙◌, ap, subst}
-use lib.ListN.{length, get_or, take, drop, set, replicate}
-use lib.Seq.{take-suc, take_all, get_or-take, get_or-drop}
+use mathlib.Core.List.{List, ◌++◌}
+use mathlib.Core.Path.{◌≡◌, refl, ◌∙◌, ap, subst}
+use lib.ListN.{length, take, drop, replicate, length-take, length-drop, length-replicate}
+use borrow.Rule.Slice.PartMut.{put_mid}
+use Rattle.std.proofs.lemmas.List.{take_min, drop_min}
+use Rattle.std.proofs.lemmas.Slice.{put_mid-paste}
 use Rattle.grammar.specs.Listing.{Text}
-use Rattle.grammar.specs.Pages.{space, line_of}
+use Rattle.grammar.specs.Pages.{space, padded, line_of}
 use Rattle.theory.proofs.Bytes.PageRows.{line_size}
 use Rattle.writer.specs.Writing.{Put}
-use Rattle.writer.proofs.PutLaws.{put_join, put_one}
-
--- behind a list stands what is looked for where there is nothing
-padding_at : (p : List ℕ) (k j d : ℕ) → get_or (p ++ replicate k d) j d ≡ get_or p j d
-padding_at [] zero j d = refl
-padding_at [] (suc k) zero d = refl
-padding_at [] (suc k) (suc j) d = padding_at [] k j d
-padding_at (x ∷ p) k zero d = refl
-padding_at (x ∷ p) k (suc j) d = padding_at p k j d
-
--- what stands within a list does not depend on what is looked for behind it
-pub within_at : (l : List ℕ) (k a b : ℕ) → k < length l → get_or l k a ≡ get_or l k b
-within_at [] k a b h = absurd (omega arith)
-within_at (x ∷ l) zero a b h = refl
-within_at (x ∷ l) (suc k) a b h = within_at l k a b (omega arith)
+use Rattle.writer.proofs.PutLaws.{put_join, put_length, put_paste}
+use Rattle.lister_lines.proofs.PrintSteps.{put_as}
 
 pub product_small : (i w : ℕ) → i < 4096 → w < 128 → i * w ≤ 520065
 product_small i w h l =
@@ -36,41 +24,37 @@ product_small i w h l =
     mul-le-mul a b
 
 module _ (width : ℕ) (text : Text) (i : ℕ) where
-  abbrev piece : Text
+  abbrev pub piece : Text
   piece = take width (drop (i * width) text)
 
-  pub line_at : (j : ℕ) → j < width → get_or (line_of width text i) j space ≡ get_or text (i * width + j) space
-  unfolding line_of
-  line_at j h =
-      padding_at piece (width - length piece) j space
-      ∙ get_or-take width (drop (i * width) text) j space h
-      ∙ get_or-drop (i * width) text j space
+  -- the bytes of the line
+  pub piece_is : {from to : ℕ} → from ≡ min (i * width) (length text) → to ≡ min (from + width) (length text) → take (to - from) (drop from text) ≡ piece
+  piece_is {from} {to} f t =
+      let size = length-drop from text in
+      let n : to - from ≡ min width (length (drop from text)) = omega arith in
+      ap (λ (k : ℕ). take k (drop from text)) n
+      ∙ take_min width (drop from text)
+      ∙ ap (λ (k : ℕ). take width (drop k text)) f
+      ∙ ap (take width) (drop_min (i * width) text)
 
-  -- one byte more
-  pub line_next : {before out : List ℕ} {at j byte k : ℕ} → j < width → byte ≡ get_or text k space → k ≡ i * width + j
-      → at + width ≤ length before → length out ≡ length before → Put before at (take j (line_of width text i)) out (at + j)
-      → Put before at (take (j + 1) (line_of width text i)) (set out (at + j) byte) (at + (j + 1))
-  line_next {before} {out} {at} {j} {byte} {k} h e n room same p =
-      let size = line_size width text i in
-      let byte_is : get_or (line_of width text i) j space ≡ byte =
-      line_at j h ∙ sym (e ∙ ap (λ (m : ℕ). get_or text m space) n) in
-      let bytes_are : take j (line_of width text i) ++ (byte ∷ []) ≡ take (j + 1) (line_of width text i) =
-      sym
-      (ap (λ (m : ℕ). take m (line_of width text i)) (add-one j)
-      ∙ take-suc (line_of width text i) j space (omega arith)
-      ∙ ap (λ (b : ℕ). take j (line_of width text i) ++ (b ∷ [])) byte_is) in
-      let end : at + j + 1 ≡ at + (j + 1) = omega arith in
-      subst (λ (m : ℕ). Put before at (take (j + 1) (line_of width text i)) (set out (at + j) byte) m) end
-      (subst (λ (w : Text). Put before at w (set out (at + j) byte) (at + j + 1)) bytes_are
-      (put_join p (put_one out (at + j) byte (omega arith))))
-
-  pub line_whole : {before out : List ℕ} {at j : ℕ} → width ≤ j → j ≤ width → Put before at (take j (line_of width text i)) out (at + j)
-      → Put before at (line_of width text i) out (at + width)
-  line_whole {before} {out} {at} {j} l h p =
-      let size = line_size width text i in
-      let e : j ≡ width = omega arith in
-      subst (λ (m : ℕ). Put before at (line_of width text i) out (at + m)) e
-      (subst (λ (w : Text). Put before at w out (at + j)) (take_all j (line_of width text i) (omega arith)) p)
+  -- and the spaces behind them
+  pub line_filled : {before mid after filled : List ℕ} {at behind : ℕ} → at + width ≤ length before → Put before at piece mid behind
+      → filled ≡ replicate (length (take (at + width - behind) (drop behind mid))) space → after ≡ put_mid behind (at + width - behind) mid filled
+      → Put before at (line_of width text i) after (at + width)
+  unfolding line_of padded
+  line_filled {before} {mid} {after} {filled} {at} {behind} room p s e =
+      let long = length-take width (drop (i * width) text) in
+      let next = p.next_is in
+      let same = put_length p in
+      let m = at + width - behind in
+      let inside = length-take m (drop behind mid) in
+      let rest = length-drop behind mid in
+      let fits : length filled ≡ m = ap length s ∙ length-replicate (length (take m (drop behind mid))) space ∙ omega arith in
+      let q = put_paste mid behind filled after (omega arith) (e ∙ put_mid-paste behind m mid filled filled (length filled) refl fits refl) in
+      let spaces : length (take m (drop behind mid)) ≡ width - length piece = omega arith in
+      let end : behind + length filled ≡ at + width = omega arith in
+      subst (λ (n : ℕ). Put before at (piece ++ replicate (width - length piece) space) after n) end
+      (put_as (ap (λ (l : List ℕ). piece ++ l) (s ∙ ap (λ (n : ℕ). replicate n space) spaces)) (put_join p q))
 
 pub line_end : (width : ℕ) (text : Text) (i : ℕ) {before : List ℕ} {at : ℕ} {after : List ℕ} {r : ℕ}
     → Put before at (line_of width text i) after r → r ≡ at + width

@@ -22,7 +22,9 @@ use Rattle.grammar.specs.WriteTable.{rule_field, table_bytes}
 use Rattle.grammar.specs.WithinLimits.{TableWithin}
 use Rattle.grammar.specs.Listing.{type_text, content_text, text_mark}
 use Rattle.grammar.specs.Pages.{page_layout, texts_of, rows_of, table_rows, blanks_after, pages}
-use Rattle.grammar.specs.Outcome.{Outcome, given, refused, ◌>>=◌, ◌>>◌, turn_back}
+use Rattle.std.specs.Prelude.{Result, Ok, Err}
+use Rattle.grammar.specs.Outcome.{◌>>=◌, ◌>>◌, turn_back}
+use Rattle.grammar.specs.declared.Refusal.{Refusal}
 use Rattle.grammar.specs.ReadTable.{read_table}
 use Rattle.grammar.specs.Answers.{Numbers, refused_by, numbers_of}
 use Rattle.grammar.specs.Calls.{work_too_short, room_for, After, wrote, table_reads, table_pages}
@@ -141,15 +143,15 @@ room_most : (out bytes : List ℕ) (n : ℕ) → length bytes ≤ n → (numbers
 unfolding room_for numbers_of refused_by
 room_most out bytes n h = go (ltb (length out) (length bytes))
   where
-    go : (short : Bool) → (numbers_of length (turn_back short OutputTooShort >> given bytes)).value ≤ n
+    go : (short : Bool) → (numbers_of length (turn_back short OutputTooShort >> Ok bytes)).value ≤ n
     go true = omega arith
     go false = h
 
-read_most : (out : List ℕ) (n : ℕ) (o : Outcome Table) → ((g : Table) → o ≡ given g → length (pages page_layout g) ≤ n)
+read_most : (out : List ℕ) (n : ℕ) (o : Result Table Refusal) → ((g : Table) → o ≡ Ok g → length (pages page_layout g) ≤ n)
     → (numbers_of length (o >>= λ g. room_for out (pages page_layout g))).value ≤ n
 unfolding numbers_of refused_by
-read_most out n (refused r) h = omega arith
-read_most out n (given g) h = room_most out (pages page_layout g) n (h g refl)
+read_most out n (Err r) h = omega arith
+read_most out n (Ok g) h = room_most out (pages page_layout g) n (h g refl)
 
 value_most : (size : Size) (classes : Classes) (table out work : List ℕ) {left : After Numbers}
     → Paging (size_limits size) classes table out work left → left.answer.value ≤ most_bytes size

@@ -26,11 +26,12 @@ use Rattle.grammar.specs.Pages.{
   page_rows,
   pages,
 }
-use Rattle.grammar.specs.Outcome.{Outcome, given, refused, ◌>>◌, turn_back}
+use Rattle.std.specs.Prelude.{Result, Ok, Err}
+use Rattle.grammar.specs.Outcome.{◌>>◌, turn_back}
+use Rattle.grammar.specs.declared.Refusal.{Refusal}
 use Rattle.grammar.specs.Answers.{written}
 use Rattle.grammar.specs.Calls.{out_after, room_for}
 use Rattle.grammar.specs.declared.Refusal.TheVariants.{OutputTooShort}
-use Rattle.grammar.specs.declared.Written.TheVariants.{Length, Refused}
 use Rattle.theory.proofs.Lists.ListLaws.{joined_append, numbers_length}
 use Rattle.theory.proofs.Emission.EmittedContent.{joined_map}
 use Rattle.theory.proofs.Bytes.PageRows.{past_rows}
@@ -177,27 +178,27 @@ module _ (g : Table) where
         let e = below_length blanks in
         omega arith
 
-    pub too_short : {out : List ℕ} → length out < (rows + blanks) * 73 → HandedOver (pages page_layout g) out out (Refused OutputTooShort)
+    pub too_short : {out : List ℕ} → length out < (rows + blanks) * 73 → HandedOver (pages page_layout g) out out (Err OutputTooShort)
     unfolding room_for written out_after
     too_short {out} h =
-        let e : room_for out (pages page_layout g) ≡ refused OutputTooShort =
-        ap (λ (b : Bool). turn_back b OutputTooShort >> given (pages page_layout g))
+        let e : room_for out (pages page_layout g) ≡ Err OutputTooShort =
+        ap (λ (b : Bool). turn_back b OutputTooShort >> Ok (pages page_layout g))
         (lt-ltb (length out) (length (pages page_layout g)) (subst (λ (n : ℕ). length out < n) (sym pages_size) h)) in
-        record { answer = sym (ap written e); out = sym (ap (λ (o : Outcome (List ℕ)). out_after o out) e) }
+        record { answer = sym (ap written e); out = sym (ap (λ (o : Result (List ℕ) Refusal). out_after o out) e) }
 
     pub handed_over : {out mid left : List ℕ} {end last : ℕ} → (rows + blanks) * 73 ≤ length out
         → Put out 0 (joined (table_rows page_layout g)) mid end
         → Put mid end (joined_of (row_of page_layout no_texts) (numbers_below blanks)) left last
-        → HandedOver (pages page_layout g) out left (Length ((rows + blanks) * 73))
+        → HandedOver (pages page_layout g) out left (Ok ((rows + blanks) * 73))
     unfolding room_for written out_after
     handed_over {out} {mid} {left} {end} {last} h p q =
         let whole : Put out 0 (pages page_layout g) left last = put_as pages_joined (put_join p q) in
         let size = pages_size in
-        let e : room_for out (pages page_layout g) ≡ given (pages page_layout g) =
-        ap (λ (b : Bool). turn_back b OutputTooShort >> given (pages page_layout g))
+        let e : room_for out (pages page_layout g) ≡ Ok (pages page_layout g) =
+        ap (λ (b : Bool). turn_back b OutputTooShort >> Ok (pages page_layout g))
         (le-ltb (length out) (length (pages page_layout g)) (subst (λ (n : ℕ). n ≤ length out) (sym size) h)) in
         let z : last ≡ length (pages page_layout g) = omega (arith, whole.next_is) in
         record {
-          answer = ap Length (sym size) ∙ sym (ap written e);
-          out = whole.is ∙ ap (λ (n : ℕ). pages page_layout g ++ drop n out) z ∙ sym (ap (λ (o : Outcome (List ℕ)). out_after o out) e);
+          answer = ap Ok (sym size) ∙ sym (ap written e);
+          out = whole.is ∙ ap (λ (n : ℕ). pages page_layout g ++ drop n out) z ∙ sym (ap (λ (o : Result (List ℕ) Refusal). out_after o out) e);
         }

@@ -1,12 +1,12 @@
 // Lines of a column, and rows of three of them.
-ghost use Rattle.std.specs.Prelude.{◌+◌, ◌*◌, ◌≤◌, ◌<◌, ◌≡◌, length, get_or};
+ghost use Rattle.std.specs.Prelude.{◌+◌, ◌*◌, ◌≤◌, ◌<◌, length};
 ghost use Rattle.grammar.specs.Lists.{joined_of, numbers_below};
-ghost use Rattle.grammar.specs.Pages.{page_layout, RuleTexts, space, line_of, row_of};
+ghost use Rattle.grammar.specs.Pages.{page_layout, RuleTexts, line_of, row_of};
 ghost use Rattle.writer.specs.Writing.{Put};
 ghost use Rattle.pages.specs.Printing.{TextsStand, SomeTexts};
 
 use crate::texts::TextPlaces;
-use lister_lines::pieces::put_byte;
+use lister_lines::pieces::{put_byte, put_bytes};
 
 // The widths of the columns of type, name and content.
 pub const TYPE: usize = 3;
@@ -18,27 +18,15 @@ pub const CONTENT: usize = 44;
 // The bytes of a row: the three columns, the spaces between them, a line feed.
 pub const ROW: usize = 73;
 
-// The byte of a text at a place; a space behind its end.
-fn letter_at(text: &[u8], k: usize) -> u8
-    ensures { result ≡ get_or text.now k space }
-{
-    if k < text.len() {
-        return text[k];
-    }
-    b' '
-}
-
-// Line i of a text, in a column of a width.
+// Line i of a text, in a column of a width: bytes of the text, and spaces behind its end.
 fn put_line(text: &[u8], width: usize, i: usize, out: &mut [u8], at: usize) -> usize
     requires { (width < 128) × (i < 4096) × (at + width ≤ length out.old) }
     ensures { Put out.old at (line_of width text.now i) out.new result }
 {
-    let from = i * width;
-    let mut j: usize = 0;
-    while j < width {
-        out[at + j] = letter_at(text, from + j);
-        j += 1;
-    }
+    let from = (i * width).min(text.len());
+    let to = (from + width).min(text.len());
+    let behind = put_bytes(out, at, &text[from..to]);
+    out[behind..at + width].fill(b' ');
     at + width
 }
 
@@ -66,10 +54,8 @@ pub fn put_rows(texts: &[u8], places: TextPlaces, rows: usize, out: &mut [u8], a
         → Put out.old at (joined_of (row_of page_layout t) (numbers_below rows)) out.new result }
 {
     let mut end = at;
-    let mut i: usize = 0;
-    while i < rows {
+    for i in 0..rows {
         end = put_row(texts, places, i, out, end);
-        i += 1;
     }
     end
 }

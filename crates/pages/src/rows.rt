@@ -7,17 +7,7 @@ ghost use Rattle.pages.specs.Printing.{TextsStand, SomeTexts};
 
 use crate::lines::{CONTENT, NAME, TYPE};
 use crate::texts::{TextPlaces, put_texts};
-use reader::index::rule_count;
-
-// The larger of two numbers.
-fn larger(a: usize, b: usize) -> usize
-    ensures { result ≡ max a b }
-{
-    if a < b {
-        return b;
-    }
-    a
-}
+use reader::index::TableIndex;
 
 // How many lines of a width a text of so many bytes takes.
 fn lines_of(width: usize, n: usize) -> usize
@@ -36,23 +26,20 @@ pub fn rows_of(places: TextPlaces) -> usize
     let kind = lines_of(TYPE, places.name);
     let name = lines_of(NAME, places.content - places.name);
     let content = lines_of(CONTENT, places.end - places.content);
-    larger(kind, larger(name, content))
+    kind.max(name.max(content))
 }
 
 // How many rows all rules take. The texts of each are written to be measured.
-pub fn count_rows(table: &[u8], index: &[u16; 899], texts: &mut [u8]) -> usize
+pub fn count_rows(table: &[u8], index: &TableIndex, texts: &mut [u8]) -> usize
     requires { SomeHeld large table.now index.now × (3139 ≤ length texts.old) }
     ensures value { (f : SomeHeld large table.now index.now)
         → result ≡ length (table_rows page_layout f.table) }
     ensures few { result ≤ 524288 }
 {
-    let rules = rule_count(index);
     let mut rows: usize = 0;
-    let mut i: usize = 0;
-    while i < rules {
+    for i in 0..index.rule_count() {
         let places = put_texts(table, index, i, texts);
         rows += rows_of(places);
-        i += 1;
     }
     rows
 }

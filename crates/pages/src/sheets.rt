@@ -10,8 +10,8 @@ ghost use Rattle.pages.specs.Printing.{RowsFit, HandedOver};
 use crate::lines::{ROW, put_rows};
 use crate::rows::{count_rows, rows_of};
 use crate::texts::{TEXTS, TextPlaces, put_texts};
-use grammar::{Refusal, Written};
-use reader::index::rule_count;
+use grammar::Refusal;
+use reader::index::TableIndex;
 
 // The rows of a page.
 const PAGE: usize = 60;
@@ -24,24 +24,21 @@ fn blanks_after(rows: usize) -> usize
 }
 
 // The rows of the rules, from the front.
-fn put_rules(table: &[u8], index: &[u16; 899], texts: &mut [u8], out: &mut [u8]) -> usize
+fn put_rules(table: &[u8], index: &TableIndex, texts: &mut [u8], out: &mut [u8]) -> usize
     requires { RowsFit table.now index.now out.old × (3139 ≤ length texts.old) }
     ensures { (f : SomeHeld large table.now index.now)
         → Put out.old 0 (joined_of (λ row. row) (table_rows page_layout f.table)) out.new result }
 {
-    let rules = rule_count(index);
     let mut end: usize = 0;
-    let mut i: usize = 0;
-    while i < rules {
+    for i in 0..index.rule_count() {
         let places = put_texts(table, index, i, texts);
         end = put_rows(texts, places, rows_of(places), out, end);
-        i += 1;
     }
     end
 }
 
 // The pages, if the output has room.
-pub fn put_pages(table: &[u8], index: &[u16; 899], out: &mut [u8]) -> Written
+pub fn put_pages(table: &[u8], index: &TableIndex, out: &mut [u8]) -> Result<usize, Refusal>
     requires { SomeHeld large table.now index.now }
     ensures { (f : SomeHeld large table.now index.now)
         → HandedOver (pages page_layout f.table) out.old out.new result }
@@ -51,7 +48,7 @@ pub fn put_pages(table: &[u8], index: &[u16; 899], out: &mut [u8]) -> Written
     let blanks = blanks_after(rows);
     let size = (rows + blanks) * ROW;
     if out.len() < size {
-        return Written::Refused(Refusal::OutputTooShort);
+        return Err(Refusal::OutputTooShort);
     }
     let end = put_rules(table, index, &mut texts, out);
     let none = TextPlaces {
@@ -60,5 +57,5 @@ pub fn put_pages(table: &[u8], index: &[u16; 899], out: &mut [u8]) -> Written
         end: 0,
     };
     put_rows(&texts, none, blanks, out, end);
-    Written::Length(size)
+    Ok(size)
 }

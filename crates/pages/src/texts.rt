@@ -9,7 +9,7 @@ ghost use Rattle.pages.specs.Printing.{TextsStand};
 
 use lister_lines::lines::{put_name, put_rule_content, put_rule_mark};
 use lister_lines::pieces::put_type;
-use reader::index::{rule_label, rule_type};
+use reader::index::TableIndex;
 
 // Bytes that hold the texts of any rule: a type of 4, a name of 63, a content of 3,071 and its mark.
 pub const TEXTS: usize = 3139;
@@ -23,18 +23,14 @@ pub struct TextPlaces {
 }
 
 // Writes the texts of a rule.
-pub fn put_texts(table: &[u8], index: &[u16; 899], i: usize, texts: &mut [u8]) -> TextPlaces
+pub fn put_texts(table: &[u8], index: &TableIndex, i: usize, texts: &mut [u8]) -> TextPlaces
     requires { SomeHeld large table.now index.now × (i < rule_count index.now) × (3139 ≤ length texts.old) }
     ensures { (f : SomeHeld large table.now index.now)
         → TextsStand texts.new result (texts_of f.table (rule_numbered f.table i)) }
 {
-    let name = put_type(texts, 0, rule_type(index, i));
-    let content = put_name(table, index, rule_label(index, i), texts, name);
+    let name = put_type(texts, 0, index.rule_type(i));
+    let content = put_name(table, index, index.rule_label(i), texts, name);
     let mark = put_rule_content(table, index, i, texts, content);
     let end = put_rule_mark(table, index, i, texts, mark);
-    TextPlaces {
-        name: name,
-        content: content,
-        end: end,
-    }
+    TextPlaces { name, content, end }
 }

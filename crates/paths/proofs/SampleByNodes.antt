@@ -19,7 +19,7 @@ use Rattle.grammar.specs.Lists.{any_pass, keep, distinct, place, numbers_from, n
 use Rattle.grammar.specs.Names.{Name, same_name, SameName}
 use Rattle.grammar.specs.Content.{Content, choice_of}
 use Rattle.grammar.specs.ReadContent.{same_content}
-use Rattle.grammar.specs.Outcome.{given}
+use Rattle.std.specs.Prelude.{Ok}
 use Rattle.grammar.specs.Tree.{Tree}
 use Rattle.grammar.specs.ReadDocument.{Node, forest_of, tree_of}
 use Rattle.grammar.specs.Sample.{
@@ -236,7 +236,7 @@ module _ (ns : List Node) (one : tree_count ns ≡ 1) (enough : Enough ns) where
       ∙ ap (λ (l : List ℕ). get_or l i 0)
       (map-map length (λ (v : Visit). v.children) (visits_found ns) ∙ visit_counts ns ([] ∷ []) (omega arith) enough)
 
-module _ (ns : List Node) (one : tree_count ns ≡ 1) (enough : Enough ns) (d : Tree) (tree : tree_of ns ≡ given d) where
+module _ (ns : List Node) (one : tree_count ns ≡ 1) (enough : Enough ns) (d : Tree) (tree : tree_of ns ≡ Ok d) where
   pub visits_at_lem : visits d [] ≡ map (visit_at ns) (numbers_below (length ns))
   visits_at_lem = visits_nodes ns d tree ∙ found_at ns one enough
 

@@ -14,7 +14,7 @@ use lib.Dec.{eqb}
 use lib.ListN.{length, length-append, length-replicate, get_or, drop, replicate}
 use borrow.Author.Tests.{eq-eqb, ne_eqb}
 use Rattle.grammar.specs.Names.{Name}
-use Rattle.grammar.specs.Outcome.{given}
+use Rattle.std.specs.Prelude.{Ok}
 use Rattle.grammar.specs.Tree.{Tree, node, Forest, []ᵗ, ◌∷ᵗ◌, trees}
 use Rattle.grammar.specs.ReadDocument.{Node, forest_of, first_trees, other_trees, tree_of}
 use Rattle.grammar.specs.Sample.{Visit, root_names, visits, visits_all}
@@ -58,7 +58,7 @@ per_nodes (n ∷ ns) (a ∷ tops) =
     (sym (per_same n.children (a ++ (n.head.name ∷ [])) tops (forest_of ns))
     ∙ per_nodes ns (replicate n.children (a ++ (n.head.name ∷ [])) ++ tops))
 
-pub visits_nodes : (ns : List Node) (d : Tree) → tree_of ns ≡ given d → visits d [] ≡ visits_from ([] ∷ []) ns
+pub visits_nodes : (ns : List Node) (d : Tree) → tree_of ns ≡ Ok d → visits d [] ≡ visits_from ([] ∷ []) ns
 unfolding tree_of visits_per
 visits_nodes [] d e = let z : ◌≡◌ {A = ℕ} 0 1 = cc in absurd (omega arith)
 visits_nodes (n ∷ ns) d e =

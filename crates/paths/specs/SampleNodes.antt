@@ -1,12 +1,11 @@
 -- A document's nodes in file order: the parent of each, and the visit that comes to each. The nodes still to come are told apart by
 -- what their parents left for them, nearest first: a node takes what stands first, and leaves its own, once for each child.
 use Rattle.std.specs.Prelude.{ℕ, zero, suc, ◌+◌, ◌-◌, ◌%◌, ◌≤◌, ◌<◌}
-use Rattle.std.specs.Prelude.{Bool, false, ◌&&◌, List, [], ◌∷◌, ◌++◌, map, ◌≡◌, eqb, length, get_or, take, drop, replicate}
+use Rattle.std.specs.Prelude.{Bool, false, ◌&&◌, List, [], ◌∷◌, ◌++◌, map, ◌≡◌, eqb, length, get_or, take, drop, replicate, Ok}
 use Rattle.grammar.specs.Lists.{any_pass, keep, distinct, place, numbers_from, numbers_below}
 use Rattle.grammar.specs.Names.{Name, same_name}
 use Rattle.grammar.specs.Content.{Content, choice_of}
 use Rattle.grammar.specs.ReadContent.{same_content}
-use Rattle.grammar.specs.Outcome.{given}
 use Rattle.grammar.specs.Tree.{Tree}
 use Rattle.grammar.specs.Table.{Rule, Table}
 use Rattle.grammar.specs.ReadDocument.{Node, forest_of, first_trees, tree_of}
@@ -159,7 +158,7 @@ pub record KeysAt (s names sizes keys firsts : List ℕ) (count : ℕ) : Type 0 
 pub record Whole (s names sizes parents : List ℕ) (n : ℕ) : Type 0 where
   pub list : List Node
   pub tree : Tree
-  pub is_tree : tree_of list ≡ given tree
+  pub is_tree : tree_of list ≡ Ok tree
   pub one : tree_count list ≡ 1
   pub enough : Enough list
   pub many : length list ≡ n

@@ -29,18 +29,12 @@ pub fn labels_of(
     let mut of = [0u8; 128];
     let mut firsts = [0u16; 128];
     let mut count: usize = 0;
-    let mut t: usize = 0;
-    while t < types {
+    for t in 0..types {
         let i = nodes[t] as usize;
         let label = find(s, names, sizes, keys, &firsts, count, i);
         of[t] = label as u8;
         firsts[count] = i as u16;
         count = next_count(count, label);
-        t += 1;
     }
-    Labels {
-        of: of,
-        firsts: firsts,
-        count: count,
-    }
+    Labels { of, firsts, count }
 }

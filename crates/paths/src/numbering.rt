@@ -36,14 +36,12 @@ pub fn find(
         (take count firsts.now) }
     ensures few { result ≤ count }
 {
-    let mut t: usize = 0;
-    while t < count {
-        if same_key(s, names, sizes, keys, i, firsts[t] as usize) {
+    for (t, first) in firsts[..count].iter().enumerate() {
+        if same_key(s, names, sizes, keys, i, usize::from(*first)) {
             return t;
         }
-        t += 1;
     }
-    t
+    count
 }
 
 // How many are listed, with one more where its place is past them.

@@ -8,11 +8,7 @@ fn leave(pending: &mut [u16], from: usize, to: usize, number: u16)
     ensures { pending.new
         ≡ take from pending.old ++ replicate (to - from) number ++ drop to pending.old }
 {
-    let mut i = from;
-    while i < to {
-        pending[i] = number;
-        i += 1;
-    }
+    pending[from..to].fill(number);
 }
 
 // The parent of each node; the root counts as its own. What the parents left for the nodes to come stands at the end, nearest first.
@@ -23,13 +19,11 @@ pub fn parents_of(shapes: &[u16], nodes: usize) -> [u16; 2048]
     let mut parents = [0u16; 2048];
     let mut pending = [0u16; 2048];
     let mut top: usize = 2047;
-    let mut i: usize = 0;
-    while i < nodes {
+    for i in 0..nodes {
         parents[i] = pending[top];
         let rest = top + 1 - shapes[i] as usize % 256;
         leave(&mut pending, rest, top + 1, i as u16);
         top = rest;
-        i += 1;
     }
     parents
 }

@@ -33,18 +33,12 @@ pub fn types_of(s: &[u8], names: &[u16], sizes: &[u16], parents: &[u16], nodes: 
     let mut aboves = [0u16; 2048];
     let mut firsts = [0u16; 2048];
     let mut count: usize = 0;
-    let mut i: usize = 0;
-    while i < nodes {
+    for i in 0..nodes {
         aboves[i] = above_type(&of, parents[i] as usize, i) as u16;
         let t = find(s, names, sizes, &aboves, &firsts, count, i);
         of[i] = t as u16;
         firsts[count] = i as u16;
         count = next_count(count, t);
-        i += 1;
     }
-    Types {
-        of: of,
-        firsts: firsts,
-        count: count,
-    }
+    Types { of, firsts, count }
 }

@@ -10,7 +10,7 @@ ghost use Rattle.writer.specs.Writing.{Put};
 use basis::ascii::ASCII;
 use basis::limits::INPUT;
 use files::read_file;
-use grammar::{Size, Written};
+use grammar::{Refusal, Size};
 use lister_lines::lines::refusal_line;
 use pages::calls::pages;
 use std::io;
@@ -31,8 +31,8 @@ pub fn print(table: &[u8], out: &mut [u8], work: &mut [u32]) -> usize
 {
     let classes = ASCII;
     match pages(Size::Standard, &classes, table, out, work) {
-        Written::Refused(refusal) => refusal_line(refusal, out),
-        Written::Length(n) => n,
+        Err(refusal) => refusal_line(refusal, out),
+        Ok(n) => n,
     }
 }
 

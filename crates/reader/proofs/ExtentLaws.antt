@@ -8,7 +8,7 @@ use native.Mathlib.Numerals.{add-one}
 use mathlib.Core.Bool.{Bool, true, false, ◌&&◌, not}
 use mathlib.Core.List.{List, [], ◌∷◌}
 use mathlib.Core.Logic.{◌⊎◌, inl, inr}
-use mathlib.Core.Option.{Option, none as nothing, some as just}
+use mathlib.Core.Option.{Option as Maybe, none as nothing, some as just}
 use mathlib.Core.Path.{◌≡◌, refl, sym, ◌∙◌, ap, ap₂}
 use lib.ListN.{length, get_or, get_elem?, length-append}
 use lib.Dec.{leb, ltb}
@@ -32,16 +32,16 @@ use Rattle.grammar.specs.Content.{
   deepest,
 }
 use Rattle.grammar.specs.ReadContent.{content_bytes, operand_bytes, numbered, counted, single, operators, Parsed, expression_of, is_proper, are_proper, whole, read_content}
-use Rattle.grammar.specs.Outcome.{Outcome, given, refused, ◌>>=◌, ◌>>◌, turn_back}
+use Rattle.std.specs.Prelude.{Option, None, Some, Result, Ok, Err}
+use Rattle.grammar.specs.Outcome.{◌>>=◌, ◌>>◌, turn_back}
 use Rattle.grammar.specs.declared.Refusal.{Refusal}
 use Rattle.grammar.specs.declared.Refusal.TheVariants.{BadContent, NestedTooDeep}
 use Rattle.theory.proofs.Lists.BoolLaws.{and_left, and_right, passes_or_fails}
 use Rattle.theory.proofs.Contents.ContentBytes.{expression_was, content_has_bytes, unknown_operator}
 use Rattle.reader.specs.ExprAt.{Placed, ◌up_to◌, placed, in_front, expr_at, exprs_at}
-use Rattle.reader.specs.declared.expressions.ContentAnswer.TheVariants.{Fine, Refused}
 use Rattle.reader.specs.declared.expressions.Extent.{Extent}
-use Rattle.reader.specs.declared.expressions.Extent.TheVariants.{Nowhere, Upto}
 use Rattle.reader.specs.Extents.{
+  upto,
   extent_by,
   NestsBelow,
   proper_at,
@@ -55,13 +55,13 @@ use Rattle.reader.proofs.ExprLaws.{same_placed, expr_written, expr_past, expr_un
 
 -- What is found of anything that stands at a place.
 module _ {A : Type 0} (proper : A → Bool) (deep : A → ℕ) where
-  extent_yes : (a : A) (n : ℕ) → proper a ≡ true → extent_by proper deep (just (a up_to n)) ≡ Upto n (deep a)
+  extent_yes : (a : A) (n : ℕ) → proper a ≡ true → extent_by proper deep (just (a up_to n)) ≡ upto n (deep a)
   extent_yes a n e = rw (e, extent_by)
 
-  extent_no : (a : A) (n : ℕ) → proper a ≡ false → extent_by proper deep (just (a up_to n)) ≡ Nowhere
+  extent_no : (a : A) (n : ℕ) → proper a ≡ false → extent_by proper deep (just (a up_to n)) ≡ None
   extent_no a n e = rw (e, extent_by)
 
-  yes_means : (p : Option (Placed A)) (next d : ℕ) → extent_by proper deep p ≡ Upto next d
+  yes_means : (p : Maybe (Placed A)) (next d : ℕ) → extent_by proper deep p ≡ upto next d
       → (a : A) × (p ≡ just (a up_to next)) × (proper a ≡ true) × (deep a ≡ d)
   yes_means nothing next d h = let z : ◌≡◌ {A = ℕ} 0 1 = cc in absurd (omega arith)
   yes_means (just e) next d h = go (passes_or_fails (proper e.content))
@@ -70,11 +70,11 @@ module _ {A : Type 0} (proper : A → Bool) (deep : A → ℕ) where
           → (a : A) × (just e ≡ just (a up_to next)) × (proper a ≡ true) × (deep a ≡ d)
       go (inl t) =
           let y = extent_yes e.content e.next t in
-          let n : e.next ≡ next = cc in
-          (e.content, ap (λ (k : ℕ). just (e.content up_to k)) n, t, cc)
+          let same : ◌≡◌ {A = Extent} (record { next = e.next; nesting = deep e.content }) (record { next = next; nesting = d }) = cc in
+          (e.content, ap (λ (x : Extent). just (e.content up_to x.next)) same, t, ap (λ (x : Extent). x.nesting) same)
       go (inr t) = let z : ◌≡◌ {A = ℕ} 0 1 = cc (extent_no e.content e.next t) in absurd (omega arith)
 
-  no_means : (p : Option (Placed A)) → extent_by proper deep p ≡ Nowhere → (a : A) (n : ℕ) → p ≡ just (a up_to n) → proper a ≡ false
+  no_means : (p : Maybe (Placed A)) → extent_by proper deep p ≡ None → (a : A) (n : ℕ) → p ≡ just (a up_to n) → proper a ≡ false
   no_means p h a n e = go (passes_or_fails (proper a))
     where
       go : (proper a ≡ true) ⊎ (proper a ≡ false) → proper a ≡ false
@@ -84,7 +84,7 @@ module _ {A : Type 0} (proper : A → Bool) (deep : A → ℕ) where
       go (inr t) = t
 
 -- What is found of an operator is what is found of its operands, made one deeper, if the operator adds no fault.
-extent_under : {A B : Type 0} (f : A → B) (ok : A → Bool) (ok' : B → Bool) (deep : A → ℕ) (deep' : B → ℕ) (p : Option (Placed A))
+extent_under : {A B : Type 0} (f : A → B) (ok : A → Bool) (ok' : B → Bool) (deep : A → ℕ) (deep' : B → ℕ) (p : Maybe (Placed A))
     → ((a : A) (n : ℕ) → p ≡ just (a up_to n) → ok' (f a) ≡ ok a) → ((a : A) → deep' (f a) ≡ deep a + 1)
     → extent_by ok' deep' (placed f p) ≡ deeper_of (extent_by ok deep p)
 extent_under f ok ok' deep deep' nothing same more = refl
@@ -97,7 +97,7 @@ extent_under f ok ok' deep deep' (just e) same more = go (passes_or_fails (ok e.
         → extent_by ok' deep' (placed f (just e)) ≡ deeper_of (extent_by ok deep (just e))
     go (inl t) =
         extent_yes ok' deep' (f e.content) e.next (s ∙ t)
-        ∙ ap (Upto e.next) (more e.content)
+        ∙ ap (upto e.next) (more e.content)
         ∙ sym (ap deeper_of (extent_yes ok deep e.content e.next t))
     go (inr t) =
         extent_no ok' deep' (f e.content) e.next (s ∙ t) ∙ sym (ap deeper_of (extent_no ok deep e.content e.next t))
@@ -125,13 +125,13 @@ mutual
       omega arith
 
 -- an operator that adds a fault
-extent_fault : {A B : Type 0} (f : A → B) (ok : B → Bool) (deep : B → ℕ) (p : Option (Placed A))
-    → ((a : A) (n : ℕ) → p ≡ just (a up_to n) → ok (f a) ≡ false) → extent_by ok deep (placed f p) ≡ Nowhere
+extent_fault : {A B : Type 0} (f : A → B) (ok : B → Bool) (deep : B → ℕ) (p : Maybe (Placed A))
+    → ((a : A) (n : ℕ) → p ≡ just (a up_to n) → ok (f a) ≡ false) → extent_by ok deep (placed f p) ≡ None
 extent_fault f ok deep nothing fault = refl
 extent_fault f ok deep (just e) fault = extent_no ok deep (f e.content) e.next (fault e.content e.next refl)
 
 -- a proper operand before others
-extent_after : (lim : Limits) (c : Content) (d : ℕ) → is_proper lim c ≡ true → nesting c ≡ d → (p : Option (Placed Contents))
+extent_after : (lim : Limits) (c : Content) (d : ℕ) → is_proper lim c ≡ true → nesting c ≡ d → (p : Maybe (Placed Contents))
     → extent_by (are_proper lim) deepest (placed (λ cs. c ∷ᶜ cs) p) ≡ joined_extent d (extent_by (are_proper lim) deepest p)
 unfolding are_proper deepest
 extent_after lim c d ok deep nothing = refl
@@ -144,7 +144,7 @@ extent_after lim c d ok deep (just e) = go (passes_or_fails (are_proper lim e.co
         → extent_by (are_proper lim) deepest (placed (λ cs. c ∷ᶜ cs) (just e)) ≡ joined_extent d (extent_by (are_proper lim) deepest (just e))
     go (inl t) =
         extent_yes (are_proper lim) deepest (c ∷ᶜ e.content) e.next (both ∙ t)
-        ∙ ap (λ (n : ℕ). Upto e.next (max n (deepest e.content))) deep
+        ∙ ap (λ (n : ℕ). upto e.next (max n (deepest e.content))) deep
         ∙ sym (ap (joined_extent d) (extent_yes (are_proper lim) deepest e.content e.next t))
     go (inr t) =
         extent_no (are_proper lim) deepest (c ∷ᶜ e.content) e.next (both ∙ t)
@@ -195,22 +195,22 @@ counts lim b l h = go (b - 3) refl
 
 module _ (lim : Limits) (s : List ℕ) (at : ℕ) where
   -- what the two answers mean
-  pub proper_yes : (next d : ℕ) → proper_at lim s at ≡ Upto next d
+  pub proper_yes : (next d : ℕ) → proper_at lim s at ≡ upto next d
       → (c : Content) × (expr_at s at ≡ just (c up_to next)) × (is_proper lim c ≡ true) × (nesting c ≡ d)
   unfolding proper_at
   proper_yes next d h = yes_means (is_proper lim) nesting (expr_at s at) next d h
 
-  pub proper_no : proper_at lim s at ≡ Nowhere → (c : Content) (next : ℕ) → expr_at s at ≡ just (c up_to next) → is_proper lim c ≡ false
+  pub proper_no : proper_at lim s at ≡ None → (c : Content) (next : ℕ) → expr_at s at ≡ just (c up_to next) → is_proper lim c ≡ false
   unfolding proper_at
   proper_no h c next e = no_means (is_proper lim) nesting (expr_at s at) h c next e
 
-  pub row_yes : (n next d : ℕ) → proper_row_at lim s at n ≡ Upto next d
+  pub row_yes : (n next d : ℕ) → proper_row_at lim s at n ≡ upto next d
       → (cs : Contents) × (exprs_at s at n ≡ just (cs up_to next)) × (are_proper lim cs ≡ true) × (deepest cs ≡ d)
   unfolding proper_row_at
   row_yes n next d h = yes_means (are_proper lim) deepest (exprs_at s at n) next d h
 
   -- the place after, and the nesting, are within the bytes
-  pub proper_within : (next d : ℕ) → proper_at lim s at ≡ Upto next d → (at < next) × (next ≤ length s) × (d ≤ length s)
+  pub proper_within : (next d : ℕ) → proper_at lim s at ≡ upto next d → (at < next) × (next ≤ length s) × (d ≤ length s)
   proper_within next d h =
       let y = proper_yes next d h in
       let w = expr_written s at y.0 next y.1 in
@@ -219,7 +219,7 @@ module _ (lim : Limits) (s : List ℕ) (at : ℕ) where
       let e = y.3 in
       omega arith
 
-  pub row_within : at ≤ length s → (n next d : ℕ) → proper_row_at lim s at n ≡ Upto next d → d ≤ length s
+  pub row_within : at ≤ length s → (n next d : ℕ) → proper_row_at lim s at n ≡ upto next d → d ≤ length s
   row_within i n next d h =
       let y = row_yes n next d h in
       let w = (exprs_written s at n y.0 next i y.1).1 in
@@ -230,43 +230,43 @@ module _ (lim : Limits) (s : List ℕ) (at : ℕ) where
   pub proper_nests : (m : ℕ) → length s < m → NestsBelow m (proper_at lim s at)
   proper_nests m h = go (proper_at lim s at) refl
     where
-      go : (x : Extent) → proper_at lim s at ≡ x → NestsBelow m x
-      go Nowhere e = tt
-      go (Upto next d) e = let w = proper_within next d e in omega arith
+      go : (x : Option Extent) → proper_at lim s at ≡ x → NestsBelow m x
+      go None e = tt
+      go (Some x) e = let w = proper_within x.next x.nesting e in omega arith
 
   pub row_nests : (n m : ℕ) → at ≤ length s → length s < m → NestsBelow m (proper_row_at lim s at n)
   row_nests n m i h = go (proper_row_at lim s at n) refl
     where
-      go : (x : Extent) → proper_row_at lim s at n ≡ x → NestsBelow m x
-      go Nowhere e = tt
-      go (Upto next d) e = let w = row_within i n next d e in omega arith
+      go : (x : Option Extent) → proper_row_at lim s at n ≡ x → NestsBelow m x
+      go None e = tt
+      go (Some x) e = let w = row_within i n x.next x.nesting e in omega arith
 
   -- Operator by operator.
-  proper_none : expr_at s at ≡ nothing → proper_at lim s at ≡ Nowhere
+  proper_none : expr_at s at ≡ nothing → proper_at lim s at ≡ None
   unfolding proper_at
   proper_none e = ap (extent_by (is_proper lim) nesting) e
 
   proper_some : (c : Content) (next : ℕ) → expr_at s at ≡ just (c up_to next) → is_proper lim c ≡ true
-      → proper_at lim s at ≡ Upto next (nesting c)
+      → proper_at lim s at ≡ upto next (nesting c)
   unfolding proper_at
   proper_some c next e t = ap (extent_by (is_proper lim) nesting) e ∙ extent_yes (is_proper lim) nesting c next t
 
-  proper_fault : (c : Content) (next : ℕ) → expr_at s at ≡ just (c up_to next) → is_proper lim c ≡ false → proper_at lim s at ≡ Nowhere
+  proper_fault : (c : Content) (next : ℕ) → expr_at s at ≡ just (c up_to next) → is_proper lim c ≡ false → proper_at lim s at ≡ None
   unfolding proper_at
   proper_fault c next e t = ap (extent_by (is_proper lim) nesting) e ∙ extent_no (is_proper lim) nesting c next t
 
-  pub proper_past : length s ≤ at → proper_at lim s at ≡ Nowhere
+  pub proper_past : length s ≤ at → proper_at lim s at ≡ None
   proper_past h = proper_none (expr_past s at h)
 
   module _ (inside : at < length s) where
-    pub proper_unknown : 7 < get_or s at 0 → proper_at lim s at ≡ Nowhere
+    pub proper_unknown : 7 < get_or s at 0 → proper_at lim s at ≡ None
     proper_unknown h = proper_none (expr_unknown s at inside (unknown_operator (get_or s at 0) (omega arith)))
 
-    pub proper_alone : get_or s at 0 ≤ 1 → proper_at lim s at ≡ Upto (at + 1) 1
+    pub proper_alone : get_or s at 0 ≤ 1 → proper_at lim s at ≡ upto (at + 1) 1
     unfolding is_proper nesting
     proper_alone h = go (get_or s at 0) refl
       where
-        go : (b : ℕ) → get_or s at 0 ≡ b → proper_at lim s at ≡ Upto (at + 1) 1
+        go : (b : ℕ) → get_or s at 0 ≡ b → proper_at lim s at ≡ upto (at + 1) 1
         go zero e = proper_some none (at + 1) (expr_alone s at inside none (ap (get_elem? operators) e ∙ operator_none)) refl
         go (suc zero) e = proper_some empty (at + 1) (expr_alone s at inside empty (ap (get_elem? operators) e ∙ operator_empty)) refl
         go (suc (suc b)) e = absurd (omega arith)
@@ -306,7 +306,7 @@ module _ (lim : Limits) (s : List ℕ) (at : ℕ) where
       go (inl p) (inl q) =
           let l = ltb-true (at + 1) (length s) p in
           let found = proper_some (type (get_or s (at + 1) 0)) (at + 2) (expr_numbered s at l type o) q in
-          rw (p, q, type_extent) (found ∙ ap (λ (n : ℕ). Upto n 1) (sym two))
+          rw (p, q, type_extent) (found ∙ ap (λ (n : ℕ). upto n 1) (sym two))
       go (inl p) (inr q) =
           let l = ltb-true (at + 1) (length s) p in
           rw (p, q, type_extent) (proper_fault (type (get_or s (at + 1) 0)) (at + 2) (expr_numbered s at l type o) q)
@@ -314,13 +314,13 @@ module _ (lim : Limits) (s : List ℕ) (at : ℕ) where
   -- a sequence or a choice
   module _ (low : 3 ≤ get_or s at 0) (high : get_or s at 0 ≤ 4) where
     -- its count is missing
-    pub proper_uncounted : at + 1 ≡ length s → proper_at lim s at ≡ Nowhere
+    pub proper_uncounted : at + 1 ≡ length s → proper_at lim s at ≡ None
     proper_uncounted h =
         let k = counts lim (get_or s at 0) low high in
         proper_none (expr_uncounted s at h k.operator k.numbered_so)
 
     -- its count is too small, whatever follows
-    pub proper_few : at + 1 < length s → get_or s (at + 1) 0 < 2 → proper_at lim s at ≡ Nowhere
+    pub proper_few : at + 1 < length s → get_or s (at + 1) 0 < 2 → proper_at lim s at ≡ None
     unfolding proper_at
     proper_few h few =
         let k = counts lim (get_or s at 0) low high in
@@ -369,17 +369,17 @@ module _ (lim : Limits) (s : List ℕ) (at : ℕ) where
             (le-leb (operand_count cs) lim.operands (omega arith))
 
   -- Operand by operand.
-  pub row_none : proper_row_at lim s at zero ≡ Upto at 0
+  pub row_none : proper_row_at lim s at zero ≡ upto at 0
   unfolding proper_row_at are_proper deepest
   row_none = ap (extent_by (are_proper lim) deepest) (exprs_none s at)
 
   -- what follows does not matter where the first is not proper
-  pub row_stop : (n : ℕ) → 0 < n → proper_at lim s at ≡ Nowhere → proper_row_at lim s at n ≡ Nowhere
+  pub row_stop : (n : ℕ) → 0 < n → proper_at lim s at ≡ None → proper_row_at lim s at n ≡ None
   unfolding proper_row_at are_proper
   row_stop zero h fault = absurd (omega arith)
   row_stop (suc n) h fault = go (expr_at s at) refl
     where
-      go : (p : Option (Placed Content)) → expr_at s at ≡ p → proper_row_at lim s at (suc n) ≡ Nowhere
+      go : (p : Maybe (Placed Content)) → expr_at s at ≡ p → proper_row_at lim s at (suc n) ≡ None
       go nothing e = ap (extent_by (are_proper lim) deepest) (exprs_stop s at n e)
       go (just e) q =
           let f = proper_no fault e.content e.next q in
@@ -387,7 +387,7 @@ module _ (lim : Limits) (s : List ℕ) (at : ℕ) where
           ∙ extent_fault (λ cs. e.content ∷ᶜ cs) (are_proper lim) deepest (exprs_at s e.next n)
           (λ cs next r. ap (λ (b : Bool). b && are_proper lim cs) f)
 
-  pub row_more : (n next d : ℕ) → 0 < n → proper_at lim s at ≡ Upto next d
+  pub row_more : (n next d : ℕ) → 0 < n → proper_at lim s at ≡ upto next d
       → proper_row_at lim s at n ≡ joined_extent d (proper_row_at lim s next (n - 1))
   unfolding proper_row_at are_proper deepest
   row_more zero next d h e = absurd (omega arith)
@@ -417,25 +417,25 @@ record First (lim : Limits) (s : List ℕ) (next d : ℕ) : Type 0 where
 -- The walk from the first byte settles how a content reads.
 module _ (lim : Limits) (s : List ℕ) where
   -- what is asked of the one expression
-  asked : Content → Outcome Content
+  asked : Content → Result Content Refusal
   asked c = do
     turn_back (not (is_proper lim c)) BadContent
     turn_back (ltb lim.nesting (nesting c)) NestedTooDeep
-    given c
+    Ok c
 
   read_by : (p : Parsed Content) → expression_of s ≡ p → read_content lim s ≡ (whole p >>= asked)
   unfolding read_content asked
   read_by p e = ap (λ (q : Parsed Content). whole q >>= asked) e
 
-  asked_fault : (c : Content) → is_proper lim c ≡ false → asked c ≡ refused BadContent
+  asked_fault : (c : Content) → is_proper lim c ≡ false → asked c ≡ Err BadContent
   unfolding asked
   asked_fault c e = rw e
 
-  asked_deep : (c : Content) → is_proper lim c ≡ true → lim.nesting < nesting c → asked c ≡ refused NestedTooDeep
+  asked_deep : (c : Content) → is_proper lim c ≡ true → lim.nesting < nesting c → asked c ≡ Err NestedTooDeep
   unfolding asked
   asked_deep c e h = rw (e, lt-ltb lim.nesting (nesting c) h)
 
-  asked_fine : (c : Content) → is_proper lim c ≡ true → nesting c ≤ lim.nesting → asked c ≡ given c
+  asked_fine : (c : Content) → is_proper lim c ≡ true → nesting c ≤ lim.nesting → asked c ≡ Ok c
   unfolding asked
   asked_fine c e h = rw (e, le-ltb lim.nesting (nesting c) h)
 
@@ -448,20 +448,20 @@ module _ (lim : Limits) (s : List ℕ) where
   unfolding expr_at
   no_expr e = ap (in_front (length s)) e
 
-  left_over : (c : Content) (rest : List ℕ) → is_proper lim c ≡ false → (whole (just (c, rest)) >>= asked) ≡ refused BadContent
+  left_over : (c : Content) (rest : List ℕ) → is_proper lim c ≡ false → (whole (just (c, rest)) >>= asked) ≡ Err BadContent
   left_over c [] e = asked_fault c e
   left_over c (b ∷ rest) e = refl
 
-  pub read_none : proper_at lim s 0 ≡ Nowhere → read_content lim s ≡ refused BadContent
+  pub read_none : proper_at lim s 0 ≡ None → read_content lim s ≡ Err BadContent
   read_none h = go (expression_of s) refl
     where
-      go : (p : Parsed Content) → expression_of s ≡ p → read_content lim s ≡ refused BadContent
+      go : (p : Parsed Content) → expression_of s ≡ p → read_content lim s ≡ Err BadContent
       go nothing e = read_by nothing e
       go (just p) e =
           let f = proper_no lim s 0 h p.0 (length s - length p.1) (first_expr p.0 p.1 e) in
           read_by (just p) e ∙ left_over p.0 p.1 f
 
-  module _ (next d : ℕ) (h : proper_at lim s 0 ≡ Upto next d) where
+  module _ (next d : ℕ) (h : proper_at lim s 0 ≡ upto next d) where
     found_first : First lim s next d
     found_first = go (expression_of s) refl
       where
@@ -485,11 +485,11 @@ module _ (lim : Limits) (s : List ℕ) where
               lengths = omega arith;
             }
 
-    pub read_left : next < length s → read_content lim s ≡ refused BadContent
+    pub read_left : next < length s → read_content lim s ≡ Err BadContent
     read_left more = let f = found_first in go f.content f.rest f.read f.lengths
       where
         go : (c : Content) (rest : List ℕ) → expression_of s ≡ just (c, rest) → next + length rest ≡ length s
-            → read_content lim s ≡ refused BadContent
+            → read_content lim s ≡ Err BadContent
         go c [] e n = absurd (omega arith)
         go c (b ∷ rest) e n = read_by (just (c, b ∷ rest)) e
 
@@ -501,12 +501,12 @@ module _ (lim : Limits) (s : List ℕ) where
         go [] e n = read_by (just (f.content, [])) e
         go (b ∷ rest) e n = absurd (omega arith)
 
-    pub read_deep : length s ≤ next → lim.nesting < d → read_content lim s ≡ refused NestedTooDeep
+    pub read_deep : length s ≤ next → lim.nesting < d → read_content lim s ≡ Err NestedTooDeep
     read_deep all deep =
         let f = found_first in
         read_whole f all ∙ asked_deep f.content f.proper (rw f.deep deep)
 
-    pub read_fine : length s ≤ next → d ≤ lim.nesting → (c : Content) × (read_content lim s ≡ given c) × ReadAs lim s c
+    pub read_fine : length s ≤ next → d ≤ lim.nesting → (c : Content) × (read_content lim s ≡ Ok c) × ReadAs lim s c
     read_fine all deep =
         let f = found_first in
         let w = proper_within lim s 0 next d h in
@@ -518,13 +518,13 @@ module _ (lim : Limits) (s : List ℕ) where
         )
 
 -- what a caller learns from the answer
-pub fine_given : (o : Outcome Content) → content_answer o ≡ Fine → (c : Content) × (o ≡ given c)
-fine_given (refused r) e = let z : ◌≡◌ {A = ℕ} 0 1 = cc in absurd (omega arith)
-fine_given (given c) e = (c, refl)
+pub fine_given : (o : Result Content Refusal) → content_answer o ≡ Ok tt → (c : Content) × (o ≡ Ok c)
+fine_given (Err r) e = let z : ◌≡◌ {A = ℕ} 0 1 = cc in absurd (omega arith)
+fine_given (Ok c) e = (c, refl)
 
-pub refused_so : (o : Outcome Content) (r : Refusal) → content_answer o ≡ Refused r → o ≡ refused r
-refused_so (refused q) r e = cc
-refused_so (given c) r e = let z : ◌≡◌ {A = ℕ} 0 1 = cc in absurd (omega arith)
+pub refused_so : (o : Result Content Refusal) (r : Refusal) → content_answer o ≡ Err r → o ≡ Err r
+refused_so (Err q) r e = cc
+refused_so (Ok c) r e = let z : ◌≡◌ {A = ℕ} 0 1 = cc in absurd (omega arith)
 
 -- what is known of the parts of a proper content
 pub proper_number : (lim : Limits) (k : ℕ) → is_proper lim (type k) ≡ true → k < lim.types

@@ -1,4 +1,5 @@
 -- Which answer a label, a start or a rule has, by the places of its field and the counts of an index: the tests as the code makes them.
+use Rattle.reader.specs.declared.index.TableIndex.{TableIndex}
 use Prim.Native.Nat.{ℕ, ◌+◌, ◌-◌, ◌≤◌, ◌<◌}
 use native.Mathlib.Omega.{arith}
 use mathlib.Core.Bool.{true, false, Bool}
@@ -10,15 +11,14 @@ use Rattle.grammar.specs.LimitSets.{limits_of}
 use Rattle.grammar.specs.Names.{Classes}
 use Rattle.grammar.specs.Content.{Content}
 use Rattle.grammar.specs.Table.{Table}
-use Rattle.grammar.specs.Outcome.{Outcome, given, ◌>>=◌}
+use Rattle.std.specs.Prelude.{Result, Ok, Err}
+use Rattle.grammar.specs.Outcome.{◌>>=◌}
 use Rattle.grammar.specs.Answers.{reading}
 use Rattle.grammar.specs.ReadContent.{read_content}
 use Rattle.grammar.specs.ReadTable.{with_start, with_rule, read_start, read_rule}
 use Rattle.grammar.specs.declared.SizeLimits.{SizeLimits}
 use Rattle.grammar.specs.declared.Refusal.{Refusal}
 use Rattle.grammar.specs.declared.Refusal.TheVariants.{BadField, Repeated, TooMany, OutOfRange}
-use Rattle.grammar.specs.declared.Reading.TheVariants.{Readable, Refused as Unreadable}
-use Rattle.reader.specs.declared.expressions.ContentAnswer.TheVariants.{Fine, Refused as Unfit}
 use Rattle.reader.specs.Extents.{content_answer}
 use Rattle.reader.specs.TableIndex.{label_count, start_count, rule_count, part, Inside, Indexes}
 use Rattle.reader.proofs.AnswerLaws.{readable, unreadable}
@@ -42,7 +42,7 @@ use Rattle.reader.proofs.TableFaults.{
   rule_content,
 }
 
-module _ (limits : SizeLimits) {s index : List ℕ} {g : Table} (x : Indexes s index g) {from to : ℕ} (h : Inside s from to) where
+module _ (limits : SizeLimits) {s : List ℕ} {index : TableIndex} {g : Table} (x : Indexes s index g) {from to : ℕ} (h : Inside s from to) where
   pub label_fits : {classes : Classes} → start_count index ≡ 0 → rule_count index ≡ 0 → (from ≡ to → ⊥) → to - from ≤ 63
       → LabelFits (limits_of limits) classes g (part s from to)
   label_fits p q r short =
@@ -57,7 +57,7 @@ module _ (limits : SizeLimits) {s index : List ℕ} {g : Table} (x : Indexes s i
       let short = f.short in
       (omega arith, omega arith)
 
-  pub start_not_one : (to - from ≡ 1 → ⊥) → reading (read_start (limits_of limits) g (part s from to)) ≡ Unreadable BadField
+  pub start_not_one : (to - from ≡ 1 → ⊥) → reading (read_start (limits_of limits) g (part s from to)) ≡ Err BadField
   start_not_one e =
       unreadable _ BadField (start_unfit (limits_of limits) g (part s from to) (λ q. e (sym (part_size s from to h) ∙ q)))
 
@@ -69,35 +69,35 @@ module _ (limits : SizeLimits) {s index : List ℕ} {g : Table} (x : Indexes s i
     unfolding ty
     one_byte = ap (read_start (limits_of limits) g) (part_one s from to one h.within)
 
-    pub start_after_rule : (rule_count index ≡ 0 → ⊥) → reading (read_start (limits_of limits) g (part s from to)) ≡ Unreadable BadField
+    pub start_after_rule : (rule_count index ≡ 0 → ⊥) → reading (read_start (limits_of limits) g (part s from to)) ≡ Err BadField
     start_after_rule e = unreadable _ BadField (one_byte ∙ start_late (limits_of limits) g ty (λ q. e (x.rules ∙ q)))
 
     module _ (no_rules : rule_count index ≡ 0) where
       none : length g.rules ≡ 0
       none = sym x.rules ∙ no_rules
 
-      pub start_again : is_in (get_or s from 0) g.starts ≡ true → reading (read_start (limits_of limits) g (part s from to)) ≡ Unreadable Repeated
+      pub start_again : is_in (get_or s from 0) g.starts ≡ true → reading (read_start (limits_of limits) g (part s from to)) ≡ Err Repeated
       unfolding ty
       start_again e = unreadable _ Repeated (one_byte ∙ start_repeated (limits_of limits) g ty none e)
 
       module _ (new : is_in (get_or s from 0) g.starts ≡ false) where
-        pub start_one_too_many : limits.rules ≤ start_count index → reading (read_start (limits_of limits) g (part s from to)) ≡ Unreadable TooMany
+        pub start_one_too_many : limits.rules ≤ start_count index → reading (read_start (limits_of limits) g (part s from to)) ≡ Err TooMany
         unfolding ty
         start_one_too_many e =
             unreadable _ TooMany (one_byte ∙ start_too_many (limits_of limits) g ty none new (omega (arith, x.starts)))
 
         module _ (few : start_count index < limits.rules) where
-          pub start_out : limits.rules ≤ get_or s from 0 → reading (read_start (limits_of limits) g (part s from to)) ≡ Unreadable OutOfRange
+          pub start_out : limits.rules ≤ get_or s from 0 → reading (read_start (limits_of limits) g (part s from to)) ≡ Err OutOfRange
           unfolding ty
           start_out e =
               unreadable _ OutOfRange (one_byte ∙ start_unknown (limits_of limits) g ty none new (omega (arith, x.starts)) e)
 
-          pub start_reads : get_or s from 0 < limits.rules → reading (read_start (limits_of limits) g (part s from to)) ≡ Readable
+          pub start_reads : get_or s from 0 < limits.rules → reading (read_start (limits_of limits) g (part s from to)) ≡ Ok tt
           unfolding ty
           start_reads e =
               readable _ (with_start g ty) (one_byte ∙ start_fine (limits_of limits) g ty none new (omega (arith, x.starts)) e)
 
-  pub rule_small : (text : Bool) → to - from < 3 → reading (read_rule (limits_of limits) g text (part s from to)) ≡ Unreadable BadField
+  pub rule_small : (text : Bool) → to - from < 3 → reading (read_rule (limits_of limits) g text (part s from to)) ≡ Err BadField
   rule_small text e =
       let size = part_size s from to h in
       unreadable _ BadField (rule_short (limits_of limits) g text (part s from to) (omega arith))
@@ -114,7 +114,7 @@ module _ (limits : SizeLimits) {s index : List ℕ} {g : Table} (x : Indexes s i
     unfolding content
     apart = ap (read_rule (limits_of limits) g text) (part_two s from to (omega arith) h.within)
 
-    pub rule_large : 1026 < to - from → reading (read_rule (limits_of limits) g text (part s from to)) ≡ Unreadable BadField
+    pub rule_large : 1026 < to - from → reading (read_rule (limits_of limits) g text (part s from to)) ≡ Err BadField
     rule_large e =
         let size = content_size in
         unreadable _ BadField (apart ∙ rule_long (limits_of limits) g text (get_or s from 0) (get_or s (from + 1) 0) content (omega arith))
@@ -126,7 +126,7 @@ module _ (limits : SizeLimits) {s index : List ℕ} {g : Table} (x : Indexes s i
       fits : length content ≤ 1024
       fits = let size = content_size in omega arith
 
-      pub rule_one_too_many : limits.rules ≤ rule_count index → reading (read_rule (limits_of limits) g text (part s from to)) ≡ Unreadable TooMany
+      pub rule_one_too_many : limits.rules ≤ rule_count index → reading (read_rule (limits_of limits) g text (part s from to)) ≡ Err TooMany
       rule_one_too_many e =
           unreadable
           _
@@ -138,14 +138,14 @@ module _ (limits : SizeLimits) {s index : List ℕ} {g : Table} (x : Indexes s i
         room : length g.rules < limits.rules
         room = omega (arith, x.rules)
 
-        pub rule_type_out : limits.rules ≤ get_or s from 0 → reading (read_rule (limits_of limits) g text (part s from to)) ≡ Unreadable OutOfRange
+        pub rule_type_out : limits.rules ≤ get_or s from 0 → reading (read_rule (limits_of limits) g text (part s from to)) ≡ Err OutOfRange
         rule_type_out e =
             unreadable
             _
             OutOfRange
             (apart ∙ rule_type_unknown (limits_of limits) g text (get_or s from 0) (get_or s (from + 1) 0) content has fits room e)
 
-        pub rule_label_out : label_count index ≤ get_or s (from + 1) 0 → reading (read_rule (limits_of limits) g text (part s from to)) ≡ Unreadable OutOfRange
+        pub rule_label_out : label_count index ≤ get_or s (from + 1) 0 → reading (read_rule (limits_of limits) g text (part s from to)) ≡ Err OutOfRange
         rule_label_out e =
             unreadable
             _
@@ -155,13 +155,13 @@ module _ (limits : SizeLimits) {s index : List ℕ} {g : Table} (x : Indexes s i
 
         module _ (type_in : get_or s from 0 < limits.rules) (label_in : get_or s (from + 1) 0 < label_count index) where
           by_content : read_rule (limits_of limits) g text (part s from to)
-              ≡ (read_content (limits_of limits) content >>= (λ c. given (with_rule g (record { type = get_or s from 0; label = get_or s (from + 1) 0; content = c; text = text }))))
+              ≡ (read_content (limits_of limits) content >>= (λ c. Ok (with_rule g (record { type = get_or s from 0; label = get_or s (from + 1) 0; content = c; text = text }))))
           by_content =
               apart
               ∙ rule_content (limits_of limits) g text (get_or s from 0) (get_or s (from + 1) 0) content has fits room type_in (omega (arith, x.labels))
 
-          pub rule_by_content : (r : Refusal) → content_answer (read_content (limits_of limits) (part s (from + 2) to)) ≡ Unfit r
-              → reading (read_rule (limits_of limits) g text (part s from to)) ≡ Unreadable r
+          rule_by_content : (r : Refusal) → content_answer (read_content (limits_of limits) (part s (from + 2) to)) ≡ Err r
+              → reading (read_rule (limits_of limits) g text (part s from to)) ≡ Err r
           unfolding content
           rule_by_content r e =
               unreadable
@@ -169,11 +169,11 @@ module _ (limits : SizeLimits) {s index : List ℕ} {g : Table} (x : Indexes s i
               r
               (by_content
               ∙ ap
-              (λ (o : Outcome Content). o >>= (λ c. given (with_rule g (record { type = get_or s from 0; label = get_or s (from + 1) 0; content = c; text = text }))))
+              (λ (o : Result Content Refusal). o >>= (λ c. Ok (with_rule g (record { type = get_or s from 0; label = get_or s (from + 1) 0; content = c; text = text }))))
               (refused_so (read_content (limits_of limits) (part s (from + 2) to)) r e))
 
-          pub rule_reads : content_answer (read_content (limits_of limits) (part s (from + 2) to)) ≡ Fine
-              → reading (read_rule (limits_of limits) g text (part s from to)) ≡ Readable
+          rule_reads : content_answer (read_content (limits_of limits) (part s (from + 2) to)) ≡ Ok tt
+              → reading (read_rule (limits_of limits) g text (part s from to)) ≡ Ok tt
           unfolding content
           rule_reads e =
               let f = fine_given (read_content (limits_of limits) (part s (from + 2) to)) e in
@@ -182,5 +182,11 @@ module _ (limits : SizeLimits) {s index : List ℕ} {g : Table} (x : Indexes s i
               (with_rule g (record { type = get_or s from 0; label = get_or s (from + 1) 0; content = f.0; text = text }))
               (by_content
               ∙ ap
-              (λ (o : Outcome Content). o >>= (λ c. given (with_rule g (record { type = get_or s from 0; label = get_or s (from + 1) 0; content = c; text = text }))))
+              (λ (o : Result Content Refusal). o >>= (λ c. Ok (with_rule g (record { type = get_or s from 0; label = get_or s (from + 1) 0; content = c; text = text }))))
               f.1)
+
+          -- the content settles it
+          pub rule_settled : (r : Result (Unit {0}) Refusal) → content_answer (read_content (limits_of limits) (part s (from + 2) to)) ≡ r
+              → reading (read_rule (limits_of limits) g text (part s from to)) ≡ r
+          rule_settled (Ok done) e = rule_reads e
+          rule_settled (Err r) e = rule_by_content r e

@@ -15,7 +15,8 @@ use Rattle.grammar.specs.Lists.{joined_of}
 use Rattle.grammar.specs.Limits.{Limits}
 use Rattle.grammar.specs.Names.{Name, Classes, loads, Loads}
 use Rattle.grammar.specs.Table.{Table}
-use Rattle.grammar.specs.Outcome.{Outcome, given, refused, ◌>>=◌, ◌>>◌, turn_back}
+use Rattle.std.specs.Prelude.{Result, Ok, Err}
+use Rattle.grammar.specs.Outcome.{◌>>=◌, ◌>>◌, turn_back}
 use Rattle.grammar.specs.Fields.{field_bytes}
 use Rattle.grammar.specs.ReadTable.{label_tag, start_tag, table_end_tag, read_table}
 use Rattle.grammar.specs.WriteTable.{table_bytes, rule_field}
@@ -50,7 +51,7 @@ joined_at {A} {B} f (y ∷ xs) (suc i) x rest e =
           ∙ p.1,
     )
 
-module _ (lim : Limits) (classes : Classes) (s : List ℕ) (g : Table) (small : AreBytes s) (read : read_table lim classes s ≡ given g) where
+module _ (lim : Limits) (classes : Classes) (s : List ℕ) (g : Table) (small : AreBytes s) (read : read_table lim classes s ≡ Ok g) where
   labels_first : (rest : List ℕ) × (s ≡ joined_of (field_bytes label_tag) g.labels ++ rest)
   unfolding table_bytes
   labels_first =
@@ -63,7 +64,7 @@ module _ (lim : Limits) (classes : Classes) (s : List ℕ) (g : Table) (small : 
       apart : (a b c d : List ℕ) → a ++ b ++ c ++ d ≡ a ++ (b ++ (c ++ d))
       apart a b c d = simp append_assoc
 
-  pub label_part_lem : (i : ℕ) (n : Name) → get_elem? g.labels i ≡ just n → part_bytes (given (part_of_label g.labels i)) s ≡ n
+  pub label_part_lem : (i : ℕ) (n : Name) → get_elem? g.labels i ≡ just n → part_bytes (Ok (part_of_label g.labels i)) s ≡ n
   unfolding part_bytes part_of_label
   label_part_lem i n e =
       let p = joined_at (field_bytes label_tag) g.labels i n labels_first.0 e in
@@ -88,28 +89,28 @@ module _ (lim : Limits) (classes : Classes) (s : List ℕ) (g : Table) (small : 
 
 -- the ways of looking for a label
 module _ (lim : Limits) (classes : Classes) (s : List ℕ) (label : ℕ) where
-  pub label_unloaded : loads classes ≡ false → label_part lim classes s label ≡ refused BadClasses
+  pub label_unloaded : loads classes ≡ false → label_part lim classes s label ≡ Err BadClasses
   unfolding label_part
   label_unloaded e = fault (not (loads classes)) BadClasses _ (ap not e)
 
   module _ (load : Loads classes) where
-    pub label_unread : (r : Refusal) → read_table lim classes s ≡ refused r → label_part lim classes s label ≡ refused r
+    pub label_unread : (r : Refusal) → read_table lim classes s ≡ Err r → label_part lim classes s label ≡ Err r
     unfolding label_part
     label_unread r e =
         loaded_is classes _ load
         ∙ ap
-        (λ (o : Outcome Table). o >>= (λ g. turn_back (leb (length g.labels) label) OutOfRange >> given (part_of_label g.labels label)))
+        (λ (o : Result Table Refusal). o >>= (λ g. turn_back (leb (length g.labels) label) OutOfRange >> Ok (part_of_label g.labels label)))
         e
 
-    module _ (g : Table) (e : read_table lim classes s ≡ given g) where
-      pub label_past : length g.labels ≤ label → label_part lim classes s label ≡ refused OutOfRange
+    module _ (g : Table) (e : read_table lim classes s ≡ Ok g) where
+      pub label_past : length g.labels ≤ label → label_part lim classes s label ≡ Err OutOfRange
       unfolding label_part
       label_past h =
           loaded_is classes _ load
           ∙ given_then (read_table lim classes s) g _ e
           ∙ fault _ OutOfRange _ (le-leb (length g.labels) label h)
 
-      pub label_found : label < length g.labels → label_part lim classes s label ≡ given (part_of_label g.labels label)
+      pub label_found : label < length g.labels → label_part lim classes s label ≡ Ok (part_of_label g.labels label)
       unfolding label_part
       label_found h =
           loaded_is classes _ load

@@ -2,6 +2,7 @@
 --   begins_at : the sum is where the name of a label begins
 --   place_found : the place of a label that there is
 --   name_bounds : names begin early and are short
+use Rattle.reader.specs.declared.index.TableIndex.{TableIndex}
 use Prim.Native.Nat.{ℕ, zero, suc, ◌+◌, ◌*◌, ◌-◌, ◌≤◌, ◌<◌}
 use native.Mathlib.Omega.{arith}
 use native.Mathlib.Numerals.{add-one}
@@ -17,7 +18,7 @@ use Rattle.grammar.specs.Limits.{Limits, NoneAbove, large}
 use Rattle.grammar.specs.Names.{Name, Classes, loads, Loads}
 use Rattle.grammar.specs.Table.{Table}
 use Rattle.grammar.specs.Fields.{field_bytes}
-use Rattle.grammar.specs.Outcome.{given}
+use Rattle.std.specs.Prelude.{Ok}
 use Rattle.grammar.specs.ReadTable.{label_tag, read_table}
 use Rattle.grammar.specs.Calls.{Part, part_of_label}
 use Rattle.grammar.specs.declared.Refusal.TheVariants.{BadClasses, OutOfRange}
@@ -35,11 +36,11 @@ use Rattle.reader.proofs.TableFaults.{part_size}
 use Rattle.reader.proofs.TableFoundLaws.{TableFound, some_roomier, label_found_at}
 
 -- three bytes, and three more and the name for each label before
-unfoldable pub summed : List ℕ → ℕ → ℕ
+unfoldable pub summed : TableIndex → ℕ → ℕ
 summed index zero = 3
 summed index (suc i) = summed index i + (3 + (label_to index i - label_from index i))
 
-pub summed_next : (index : List ℕ) (i : ℕ) → summed index (i + 1) ≡ summed index i + (3 + (label_to index i - label_from index i))
+pub summed_next : (index : TableIndex) (i : ℕ) → summed index (i + 1) ≡ summed index i + (3 + (label_to index i - label_from index i))
 unfolding summed
 summed_next index i = ap (summed index) (add-one i)
 
@@ -55,7 +56,7 @@ begins_next : (labels : List Name) (i : ℕ) (n : Name) → get_elem? labels i �
 unfolding name_begins part_of_label
 begins_next labels i n e = let j = joined_next (field_bytes label_tag) labels i n e in let l = field_length label_tag n in omega arith
 
-module _ {s index : List ℕ} (f : SomeHeld large s index) where
+module _ {s : List ℕ} {index : TableIndex} (f : SomeHeld large s index) where
   label_size : (i : ℕ) → i < label_count index
       → (n : Name) × (get_elem? f.table.labels i ≡ just n) × (label_to index i - label_from index i ≡ length n) × (length n ≤ 63)
   unfolding large
@@ -98,7 +99,7 @@ joined_short (n ∷ labels) h (suc i) =
     omega arith
 
 -- the place of a label that there is
-module _ {lim : Limits} (none_above : NoneAbove lim large) {classes : Classes} (load : Loads classes) {s index : List ℕ}
+module _ {lim : Limits} (none_above : NoneAbove lim large) {classes : Classes} (load : Loads classes) {s : List ℕ} {index : TableIndex}
     (f : TableFound lim classes s index) (small : AreBytes s) (label : ℕ)
     (h : label < label_count index) where
   abbrev size : ℕ
@@ -108,7 +109,7 @@ module _ {lim : Limits} (none_above : NoneAbove lim large) {classes : Classes} (
   g = f.some.table
 
   pub place_found : (from : ℕ) → from ≡ name_begins g.labels label
-      → Inside s from (from + size) × (label_part lim classes s label ≡ given (record { from = from; size = (from + size) - from }))
+      → Inside s from (from + size) × (label_part lim classes s label ≡ Ok (record { from = from; size = (from + size) - from }))
   unfolding name_begins part_of_label
   place_found from e =
       let few = f.some.held.indexes.labels in
@@ -119,12 +120,12 @@ module _ {lim : Limits} (none_above : NoneAbove lim large) {classes : Classes} (
       let same : length (get_or g.labels label []) ≡ (from + size) - from = omega arith in (
         record { order = omega arith; within = omega arith },
         label_found lim classes s label load g f.read (omega arith)
-            ∙ ap (λ (k : ℕ). given (record { from = k; size = length (get_or g.labels label []) })) (sym e)
-            ∙ ap (λ (k : ℕ). given (record { from = from; size = k })) same,
+            ∙ ap (λ (k : ℕ). Ok (record { from = k; size = length (get_or g.labels label []) })) (sym e)
+            ∙ ap (λ (k : ℕ). Ok (record { from = from; size = k })) same,
       )
 
 module _ {lim : Limits} (none_above : NoneAbove lim large) (classes : Classes) (s : List ℕ) (label : ℕ) where
-  pub name_bounds : (p : Part) → label_part lim classes s label ≡ given p → (p.from ≤ 8451) × (p.size ≤ 63)
+  pub name_bounds : (p : Part) → label_part lim classes s label ≡ Ok p → (p.from ≤ 8451) × (p.size ≤ 63)
   unfolding label_part large part_of_label
   name_bounds p e =
       let under = (had_no_fault (not (loads classes)) BadClasses _ p e).1 in

@@ -1,5 +1,6 @@
 -- The place of the first that is the same (`place_first`, `place_nowhere`), searching names by where they stand (`found_here`,
 -- `found_nowhere`), and the labels and starts of an index.
+use Rattle.reader.specs.declared.index.TableIndex.{TableIndex}
 use Prim.Native.Nat.{ℕ, zero, suc, ◌+◌, ◌<◌}
 use native.Mathlib.Omega.{arith}
 use mathlib.Core.Bool.{Bool, true, false}
@@ -80,12 +81,12 @@ module _ {s places : List ℕ} {count : ℕ} {list : List Name} (x : NamesAt s p
             let n = x.count in
             sym (place_none same_name name list (omega arith))
 
-module _ {s index : List ℕ} {g : Table} (x : Indexes s index g) where
+module _ {s : List ℕ} {index : TableIndex} {g : Table} (x : Indexes s index g) where
   -- the names of the labels
-  pub index_names : {n : ℕ} → n ≡ label_count index → NamesAt s index n g.labels
+  pub index_names : {n : ℕ} → n ≡ label_count index → NamesAt s index.names n g.labels
   index_names e =
       let few = x.few_labels in
-      let room = x.room in
+      let room = x.room.names in
       record { count = e ∙ x.labels; name = x.label; few = omega arith; room = omega arith }
 
   module _ (test : ℕ → Bool) where

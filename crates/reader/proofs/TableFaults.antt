@@ -13,7 +13,9 @@ use Rattle.grammar.specs.Lists.{any_pass, is_in}
 use Rattle.grammar.specs.Limits.{Limits}
 use Rattle.grammar.specs.Names.{same_name, Classes, is_name}
 use Rattle.grammar.specs.Table.{Table}
-use Rattle.grammar.specs.Outcome.{Outcome, given, refused, ◌>>=◌, ◌>>◌, turn_back}
+use Rattle.std.specs.Prelude.{Result, Ok, Err}
+use Rattle.grammar.specs.Outcome.{◌>>=◌, ◌>>◌, turn_back}
+use Rattle.grammar.specs.declared.Refusal.{Refusal}
 use Rattle.grammar.specs.ReadContent.{read_content}
 use Rattle.grammar.specs.ReadTable.{is_empty, with_label, with_start, with_rule, read_label, read_start, read_rule}
 use Rattle.grammar.specs.declared.Refusal.TheVariants.{BadField, BadName, Repeated, TooMany, OutOfRange}
@@ -80,25 +82,25 @@ module _ (lim : Limits) (classes : Classes) (g : Table) (value : List ℕ) where
         short = leb-true (length value) lim.name (and_right (first && long) short e);
       }
 
-  pub label_unfit : (LabelFits → ⊥) → read_label lim classes g value ≡ refused BadField
+  pub label_unfit : (LabelFits → ⊥) → read_label lim classes g value ≡ Err BadField
   unfolding read_label fits first long short
   label_unfit h = fault (not fits) BadField _ (ap not (false_of fits (λ e. h (fitted e))))
 
   module _ (h : LabelFits) where
-    fine_field : {B : Type 0} (next : Outcome B) → (turn_back (not fits) BadField >> next) ≡ next
+    fine_field : {B : Type 0} (next : Result B Refusal) → (turn_back (not fits) BadField >> next) ≡ next
     fine_field next = no_fault (not fits) BadField next (ap not (fitting h))
 
-    pub label_misnamed : is_name classes value ≡ false → read_label lim classes g value ≡ refused BadName
+    pub label_misnamed : is_name classes value ≡ false → read_label lim classes g value ≡ Err BadName
     unfolding read_label fits first long short
     label_misnamed e = fine_field _ ∙ fault _ BadName _ (ap not e)
 
     module _ (named : is_name classes value ≡ true) where
-      pub label_repeated : any_pass (same_name value) g.labels ≡ true → read_label lim classes g value ≡ refused Repeated
+      pub label_repeated : any_pass (same_name value) g.labels ≡ true → read_label lim classes g value ≡ Err Repeated
       unfolding read_label fits first long short
       label_repeated e = fine_field _ ∙ no_fault _ BadName _ (ap not named) ∙ fault _ Repeated _ e
 
       module _ (new : any_pass (same_name value) g.labels ≡ false) where
-        pub label_too_many : lim.labels ≤ length g.labels → read_label lim classes g value ≡ refused TooMany
+        pub label_too_many : lim.labels ≤ length g.labels → read_label lim classes g value ≡ Err TooMany
         unfolding read_label fits first long short
         label_too_many e =
             fine_field _
@@ -106,7 +108,7 @@ module _ (lim : Limits) (classes : Classes) (g : Table) (value : List ℕ) where
             ∙ no_fault _ Repeated _ new
             ∙ fault _ TooMany _ (le-leb lim.labels (length g.labels) e)
 
-        pub label_fine : length g.labels < lim.labels → read_label lim classes g value ≡ given (with_label g value)
+        pub label_fine : length g.labels < lim.labels → read_label lim classes g value ≡ Ok (with_label g value)
         unfolding read_label fits first long short
         label_fine e =
             fine_field _
@@ -115,32 +117,32 @@ module _ (lim : Limits) (classes : Classes) (g : Table) (value : List ℕ) where
             ∙ no_fault _ TooMany _ (lt-leb lim.labels (length g.labels) e)
 
 module _ (lim : Limits) (g : Table) where
-  pub start_unfit : (value : List ℕ) → (length value ≡ 1 → ⊥) → read_start lim g value ≡ refused BadField
+  pub start_unfit : (value : List ℕ) → (length value ≡ 1 → ⊥) → read_start lim g value ≡ Err BadField
   unfolding read_start
   start_unfit [] h = refl
   start_unfit (k ∷ []) h = absurd (h refl)
   start_unfit (k ∷ b ∷ rest) h = refl
 
   module _ (k : ℕ) where
-    pub start_late : (length g.rules ≡ 0 → ⊥) → read_start lim g (k ∷ []) ≡ refused BadField
+    pub start_late : (length g.rules ≡ 0 → ⊥) → read_start lim g (k ∷ []) ≡ Err BadField
     unfolding read_start
     start_late h = fault _ BadField _ (ap not (false_of (is_empty g.rules) (λ e. h (none_of g.rules e))))
 
     module _ (no_rules : length g.rules ≡ 0) where
-      in_time : {B : Type 0} (next : Outcome B) → (turn_back (not (is_empty g.rules)) BadField >> next) ≡ next
+      in_time : {B : Type 0} (next : Result B Refusal) → (turn_back (not (is_empty g.rules)) BadField >> next) ≡ next
       in_time next = no_fault _ BadField next (ap not (is_empty_lem g.rules no_rules))
 
-      pub start_repeated : is_in k g.starts ≡ true → read_start lim g (k ∷ []) ≡ refused Repeated
+      pub start_repeated : is_in k g.starts ≡ true → read_start lim g (k ∷ []) ≡ Err Repeated
       unfolding read_start
       start_repeated e = in_time _ ∙ fault _ Repeated _ e
 
       module _ (new : is_in k g.starts ≡ false) where
-        pub start_too_many : lim.starts ≤ length g.starts → read_start lim g (k ∷ []) ≡ refused TooMany
+        pub start_too_many : lim.starts ≤ length g.starts → read_start lim g (k ∷ []) ≡ Err TooMany
         unfolding read_start
         start_too_many e = in_time _ ∙ no_fault _ Repeated _ new ∙ fault _ TooMany _ (le-leb lim.starts (length g.starts) e)
 
         module _ (few : length g.starts < lim.starts) where
-          pub start_unknown : lim.types ≤ k → read_start lim g (k ∷ []) ≡ refused OutOfRange
+          pub start_unknown : lim.types ≤ k → read_start lim g (k ∷ []) ≡ Err OutOfRange
           unfolding read_start
           start_unknown e =
               in_time _
@@ -148,7 +150,7 @@ module _ (lim : Limits) (g : Table) where
               ∙ no_fault _ TooMany _ (lt-leb lim.starts (length g.starts) few)
               ∙ fault _ OutOfRange _ (le-leb lim.types k e)
 
-          pub start_fine : k < lim.types → read_start lim g (k ∷ []) ≡ given (with_start g k)
+          pub start_fine : k < lim.types → read_start lim g (k ∷ []) ≡ Ok (with_start g k)
           unfolding read_start
           start_fine e =
               in_time _
@@ -156,7 +158,7 @@ module _ (lim : Limits) (g : Table) where
               ∙ no_fault _ TooMany _ (lt-leb lim.starts (length g.starts) few)
               ∙ no_fault _ OutOfRange _ (lt-leb lim.types k e)
 
-  pub rule_short : (text : Bool) (value : List ℕ) → length value < 3 → read_rule lim g text value ≡ refused BadField
+  pub rule_short : (text : Bool) (value : List ℕ) → length value < 3 → read_rule lim g text value ≡ Err BadField
   unfolding read_rule
   rule_short text [] h = refl
   rule_short text (k ∷ []) h = refl
@@ -167,31 +169,31 @@ module _ (lim : Limits) (g : Table) where
     sized : Bool
     sized = leb 1 (length content) && leb (length content) lim.content
 
-    pub rule_long : lim.content < length content → read_rule lim g text (k ∷ l ∷ content) ≡ refused BadField
+    pub rule_long : lim.content < length content → read_rule lim g text (k ∷ l ∷ content) ≡ Err BadField
     unfolding read_rule sized
     rule_long h =
         fault _ BadField _ (ap not (false_of sized (λ e. let q = leb-true (length content) lim.content (and_right (leb 1 (length content)) _ e) in omega arith)))
 
     module _ (has : 1 ≤ length content) (size : length content ≤ lim.content) where
-      right_size : {B : Type 0} (next : Outcome B) → (turn_back (not sized) BadField >> next) ≡ next
+      right_size : {B : Type 0} (next : Result B Refusal) → (turn_back (not sized) BadField >> next) ≡ next
       unfolding sized
       right_size next =
           no_fault (not sized) BadField next (ap not (and_intro (leb 1 (length content)) _ (le-leb 1 (length content) has) (le-leb (length content) lim.content size)))
 
-      pub rule_too_many : lim.rules ≤ length g.rules → read_rule lim g text (k ∷ l ∷ content) ≡ refused TooMany
+      pub rule_too_many : lim.rules ≤ length g.rules → read_rule lim g text (k ∷ l ∷ content) ≡ Err TooMany
       unfolding read_rule sized
       rule_too_many e = right_size _ ∙ fault _ TooMany _ (le-leb lim.rules (length g.rules) e)
 
       module _ (few : length g.rules < lim.rules) where
-        room_left : {B : Type 0} (next : Outcome B) → (turn_back (leb lim.rules (length g.rules)) TooMany >> next) ≡ next
+        room_left : {B : Type 0} (next : Result B Refusal) → (turn_back (leb lim.rules (length g.rules)) TooMany >> next) ≡ next
         room_left next = no_fault _ TooMany next (lt-leb lim.rules (length g.rules) few)
 
-        pub rule_type_unknown : lim.types ≤ k → read_rule lim g text (k ∷ l ∷ content) ≡ refused OutOfRange
+        pub rule_type_unknown : lim.types ≤ k → read_rule lim g text (k ∷ l ∷ content) ≡ Err OutOfRange
         unfolding read_rule sized
         rule_type_unknown e =
             right_size _ ∙ room_left _ ∙ fault _ OutOfRange _ (or_left _ _ (le-leb lim.types k e))
 
-        pub rule_label_unknown : length g.labels ≤ l → read_rule lim g text (k ∷ l ∷ content) ≡ refused OutOfRange
+        pub rule_label_unknown : length g.labels ≤ l → read_rule lim g text (k ∷ l ∷ content) ≡ Err OutOfRange
         unfolding read_rule sized
         rule_label_unknown e =
             right_size _ ∙ room_left _ ∙ fault _ OutOfRange _ (or_right (leb lim.types k) _ (le-leb (length g.labels) l e))
@@ -199,7 +201,7 @@ module _ (lim : Limits) (g : Table) where
         -- what is left is the content's answer
         pub rule_content : k < lim.types → l < length g.labels
             → read_rule lim g text (k ∷ l ∷ content)
-            ≡ (read_content lim content >>= (λ c. given (with_rule g (record { type = k; label = l; content = c; text = text }))))
+            ≡ (read_content lim content >>= (λ c. Ok (with_rule g (record { type = k; label = l; content = c; text = text }))))
         unfolding read_rule sized
         rule_content p q =
             right_size _

@@ -4,6 +4,7 @@
 --   held_roomier : a table that is held under some limits is held under roomier ones
 --   label_found_at, start_small, rule_found_at : what stands at each number below the count, with its bounds
 --   content_in_part : the content of a rule, as the walks over contents have it
+use Rattle.reader.specs.declared.index.TableIndex.{TableIndex}
 use Prim.Native.Nat.{ℕ, ◌+◌, ◌-◌, ◌<◌}
 use native.Mathlib.Omega.{arith}
 use mathlib.Core.List.{List, [], append-nil}
@@ -14,13 +15,11 @@ use Rattle.grammar.specs.Limits.{Limits, NoneAbove, large}
 use Rattle.grammar.specs.Names.{Name, Classes, Loads}
 use Rattle.grammar.specs.Content.{Content}
 use Rattle.grammar.specs.Table.{Rule, Table}
-use Rattle.grammar.specs.Outcome.{given, refused}
+use Rattle.std.specs.Prelude.{Ok, Err, Result}
 use Rattle.grammar.specs.ReadContent.{content_bytes}
 use Rattle.grammar.specs.ReadTable.{read_table}
 use Rattle.grammar.specs.WithinLimits.{NameWithin, RuleWithin, TableWithin}
 use Rattle.grammar.specs.declared.Refusal.{Refusal}
-use Rattle.grammar.specs.declared.Reading.{Reading}
-use Rattle.grammar.specs.declared.Reading.TheVariants.{Readable, Refused as Unreadable}
 use Rattle.theory.specs.Conditions.{all_letters}
 use Rattle.theory.proofs.Lists.ListLaws.{at_mem}
 use Rattle.theory.proofs.Tables.RoomierLimits.{table_roomier}
@@ -49,12 +48,12 @@ use Rattle.reader.proofs.TableFaults.{part_size}
 use Rattle.reader.proofs.TableIndexLaws.{label_at, start_at, rule_at}
 
 -- the table that was read is held
-pub record TableFound (lim : Limits) (classes : Classes) (s index : List ℕ) : Type 0 where
+pub record TableFound (lim : Limits) (classes : Classes) (s : List ℕ) (index : TableIndex) : Type 0 where
   pub some : SomeHeld lim s index
-  pub read : read_table lim classes s ≡ given some.table
+  pub read : read_table lim classes s ≡ Ok some.table
 
-module _ (lim : Limits) (classes : Classes) (s : List ℕ) (r : Reading) (index : List ℕ) (so : Reads s (read_table lim classes s) r index) where
-  pub table_found : Loads classes → r ≡ Readable → TableFound lim classes s index
+module _ (lim : Limits) (classes : Classes) (s : List ℕ) (r : Result (Unit {0}) Refusal) (index : TableIndex) (so : Reads s (read_table lim classes s) r index) where
+  pub table_found : Loads classes → r ≡ Ok tt → TableFound lim classes s index
   table_found load e =
       let all = all_classed classes load in
       let f = was_readable (read_table lim classes s) (sym so.answer ∙ e) in
@@ -66,14 +65,14 @@ module _ (lim : Limits) (classes : Classes) (s : List ℕ) (r : Reading) (index 
         read = f.1;
       }
 
-  pub table_refused : (q : Refusal) → r ≡ Unreadable q → read_table lim classes s ≡ refused q
+  pub table_refused : (q : Refusal) → r ≡ Err q → read_table lim classes s ≡ Err q
   table_refused q e = was_unreadable (read_table lim classes s) q (sym so.answer ∙ e)
 
 module _ {lim lim' : Limits} (none_above : NoneAbove lim lim') where
-  pub held_roomier : {s index : List ℕ} {g : Table} → Held lim s index g → Held lim' s index g
+  pub held_roomier : {s : List ℕ} {index : TableIndex} {g : Table} → Held lim s index g → Held lim' s index g
   held_roomier h = record { indexes = h.indexes; within = table_roomier none_above h.within }
 
-  abbrev pub some_roomier : {s index : List ℕ} → SomeHeld lim s index → SomeHeld lim' s index
+  abbrev pub some_roomier : {s : List ℕ} {index : TableIndex} → SomeHeld lim s index → SomeHeld lim' s index
   some_roomier f = record { table = f.table; held = held_roomier f.held }
 
 -- a content that stands somewhere is the expression in that part
@@ -85,7 +84,7 @@ content_in_part {s} {from} {to} c w =
     expr_of (part s from to) 0 c [] (w.bytes_are ∙ sym (append-nil (content_bytes c))) ∙ ap (λ (n : ℕ). just (c up_to n)) end
 
 -- a rule at a number below the count
-pub record RuleFound (s index : List ℕ) (g : Table) (i : ℕ) : Type 0 where
+pub record RuleFound (s : List ℕ) (index : TableIndex) (g : Table) (i : ℕ) : Type 0 where
   pub rule : Rule
   pub listed : get_elem? g.rules i ≡ just rule
   pub at : RuleAt s index i rule
@@ -93,7 +92,7 @@ pub record RuleFound (s index : List ℕ) (g : Table) (i : ℕ) : Type 0 where
   pub type_below : rule_type index i < 128
   pub label_below : rule_label index i < label_count index
 
-module _ {s index : List ℕ} {g : Table} (x : Indexes s index g) (b : TableWithin large all_letters g) where
+module _ {s : List ℕ} {index : TableIndex} {g : Table} (x : Indexes s index g) (b : TableWithin large all_letters g) where
   -- a label's name is a name
   pub label_found_at : (i : ℕ) → i < label_count index
       → (n : Name) × (get_elem? g.labels i ≡ just n) × BytesStand s (label_from index i) (label_to index i) n × NameWithin large all_letters n

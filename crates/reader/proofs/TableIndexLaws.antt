@@ -1,4 +1,5 @@
 -- Laws of indexes: what stands at each number, and the index after one label, start or rule more.
+use Rattle.reader.specs.declared.index.TableIndex.{TableIndex}
 use mathlib.Core.Bool.{true, Bool, false}
 use lib.Dec.{eqb}
 use Prim.Native.Nat.{ℕ, zero, suc, ◌+◌, ◌≤◌, ◌<◌, ◌-◌}
@@ -33,6 +34,7 @@ use Rattle.reader.specs.TableIndex.{
   Inside,
   BytesStand,
   RuleAt,
+  HasRows,
   Indexes,
 }
 use Rattle.reader.specs.FieldAt.{TagBefore}
@@ -59,7 +61,7 @@ pub stands_so : {s : List ℕ} {from from' to to' : ℕ} {bytes bytes' : List �
 stands_so w p q r = rw (p, q, ← r) w
 
 -- a rule stands where the index says the same of it
-rule_so : {s index index' : List ℕ} {i : ℕ} {r : Rule} → RuleAt s index i r → rule_type index' i ≡ rule_type index i
+rule_so : {s : List ℕ} {index index' : TableIndex} {i : ℕ} {r : Rule} → RuleAt s index i r → rule_type index' i ≡ rule_type index i
     → rule_label index' i ≡ rule_label index i → content_from index' i ≡ content_from index i → content_to index' i ≡ content_to index i
     → RuleAt s index' i r
 rule_so {s = s} {r = r} w p q f t =
@@ -82,7 +84,7 @@ tag_tells {s} {from} text x =
     tells true = refl
     tells false = refl
 
-module _ {s index : List ℕ} {g : Table} (x : Indexes s index g) where
+module _ {s : List ℕ} {index : TableIndex} {g : Table} (x : Indexes s index g) where
   -- at each number below the count
   pub label_at : (i : ℕ) → i < label_count index
       → (n : Name) × (get_elem? g.labels i ≡ just n) × BytesStand s (label_from index i) (label_to index i) n
@@ -118,72 +120,46 @@ module _ {s index : List ℕ} {g : Table} (x : Indexes s index g) where
     n : ℕ
     n = label_count index
 
-    more : List ℕ
+    more : TableIndex
     more = with_label_at index from to
 
-    label_kept : (i : ℕ) → (i ≡ n → ⊥) → (i ≡ 128 + n → ⊥) → (i ≡ 896 → ⊥) → get_or more i 0 ≡ get_or index i 0
+    label_kept : (i : ℕ) → (i ≡ n → ⊥) → (i ≡ 128 + n → ⊥) → get_or more.names i 0 ≡ get_or index.names i 0
     unfolding n more
-    label_kept i p q r =
-        kept (set (set index n from) (128 + n) to) 896 i (n + 1) r
-        ∙ kept (set index n from) (128 + n) i to q
-        ∙ kept index n i from p
-
-    label_room : length more ≡ 899
-    unfolding n more
-    label_room =
-        length-set (set (set index n from) (128 + n) to) 896 (n + 1)
-        ∙ length-set (set index n from) (128 + n) to
-        ∙ length-set index n from
-        ∙ x.room
-
-    label_number : label_count more ≡ label_count index + 1
-    unfolding n more
-    label_number =
-        let room = length-set (set index n from) (128 + n) to ∙ length-set index n from ∙ x.room in
-        put (set (set index n from) (128 + n) to) 896 896 (n + 1) (omega arith) refl
+    label_kept i p q = kept (set index.names n from) (128 + n) i to q ∙ kept index.names n i from p
 
     label_from_put : (i : ℕ) → i ≡ n → label_from more i ≡ from
     unfolding n more
     label_from_put i e =
-        let room = x.room in
-        kept (set (set index n from) (128 + n) to) 896 i (n + 1) (λ h. omega arith)
-        ∙ kept (set index n from) (128 + n) i to (λ h. omega arith)
-        ∙ put index n i from (omega arith) e
+        let room = x.room.names in
+        kept (set index.names n from) (128 + n) i to (λ h. omega arith) ∙ put index.names n i from (omega arith) e
 
     label_to_put : (i : ℕ) → i ≡ n → label_to more i ≡ to
     unfolding n more
     label_to_put i e =
-        let room = length-set index n from ∙ x.room in
-        kept (set (set index n from) (128 + n) to) 896 (128 + i) (n + 1) (λ h. omega arith)
-        ∙ put (set index n from) (128 + n) (128 + i) to (omega arith) (ap (λ (k : ℕ). 128 + k) e)
+        let room = length-set index.names n from ∙ x.room.names in
+        put (set index.names n from) (128 + n) (128 + i) to (omega arith) (ap (λ (k : ℕ). 128 + k) e)
 
     pub label_added : Inside s from to → Indexes s (with_label_at index from to) (with_label g (part s from to))
     unfolding n more
     label_added h =
         record {
-          labels = one_more n (label_count more) g.labels (part s from to) label_number x.labels;
-          few_labels = let e = label_number in omega arith;
+          labels = one_more n (n + 1) g.labels (part s from to) refl x.labels;
+          few_labels = omega arith;
           label = λ i m e. ⊎_elim (older i m) (newest i m) (at_end g.labels (part s from to) i m e);
-          starts = label_kept 897 (λ e. omega arith) (λ e. omega arith) (λ e. omega arith) ∙ x.starts;
-          few_starts = let e = label_kept 897 (λ e. omega arith) (λ e. omega arith) (λ e. omega arith) in let few = x.few_starts in omega arith;
-          start = λ i t e.
-              let b = at_below g.starts i e in
-              let m = x.starts in
-              let few' = x.few_starts in
-              label_kept (256 + i) (λ h. omega arith) (λ h. omega arith) (λ h. omega arith) ∙ x.start i t e;
-          rules = label_kept 898 (λ e. omega arith) (λ e. omega arith) (λ e. omega arith) ∙ x.rules;
-          few_rules = let e = label_kept 898 (λ e. omega arith) (λ e. omega arith) (λ e. omega arith) in let few = x.few_rules in omega arith;
-          rule = λ i r e.
-              let b = at_below g.rules i e in
-              let m = x.rules in
-              let few' = x.few_rules in
-              rule_so
-              (x.rule i r e)
-              (label_kept (384 + i) (λ h. omega arith) (λ h. omega arith) (λ h. omega arith))
-              (label_kept (512 + i) (λ h. omega arith) (λ h. omega arith) (λ h. omega arith))
-              (label_kept (640 + i) (λ h. omega arith) (λ h. omega arith) (λ h. omega arith))
-              (label_kept (768 + i) (λ h. omega arith) (λ h. omega arith) (λ h. omega arith));
-          room = label_room;
+          starts = x.starts;
+          few_starts = x.few_starts;
+          start = x.start;
+          rules = x.rules;
+          few_rules = x.few_rules;
+          rule = λ i r e. rule_so (x.rule i r e) refl refl refl refl;
+          room = record {
+            names = length-set (set index.names n from) (128 + n) to ∙ length-set index.names n from ∙ x.room.names;
+            start_types = x.room.start_types;
+            rule_types = x.room.rule_types;
+            rule_labels = x.room.rule_labels;
+            contents_from = x.room.contents_from;
+            contents_to = x.room.contents_to;
+          };
         }
       where
         older : (i : ℕ) (m : Name) → get_elem? g.labels i ≡ just m → BytesStand s (label_from more i) (label_to more i) m
@@ -192,8 +168,8 @@ module _ {s index : List ℕ} {g : Table} (x : Indexes s index g) where
             let k = x.labels in
             stands_so
             (x.label i m e)
-            (label_kept i (λ h. omega arith) (λ h. omega arith) (λ h. omega arith))
-            (label_kept (128 + i) (λ h. omega arith) (λ h. omega arith) (λ h. omega arith))
+            (label_kept i (λ h. omega arith) (λ h. omega arith))
+            (label_kept (128 + i) (λ h. omega arith) (λ h. omega arith))
             refl
 
         newest : (i : ℕ) (m : Name) → (i ≡ length g.labels) × (part s from to ≡ m) → BytesStand s (label_from more i) (label_to more i) m
@@ -206,224 +182,117 @@ module _ {s index : List ℕ} {g : Table} (x : Indexes s index g) where
     first : ℕ
     first = start_count index
 
-    longer : List ℕ
-    longer = with_start_of index k
-
-    start_kept : (i : ℕ) → (i ≡ 256 + first → ⊥) → (i ≡ 897 → ⊥) → get_or longer i 0 ≡ get_or index i 0
-    unfolding first longer
-    start_kept i p q = kept (set index (256 + first) k) 897 i (first + 1) q ∙ kept index (256 + first) i k p
-
-    start_number : start_count longer ≡ start_count index + 1
-    unfolding first longer
-    start_number =
-        let room = length-set index (256 + first) k ∙ x.room in
-        put (set index (256 + first) k) 897 897 (first + 1) (omega arith) refl
-
-    start_put : (i : ℕ) → i ≡ first → start_type longer i ≡ k
-    unfolding first longer
-    start_put i e =
-        let room = x.room in
-        kept (set index (256 + first) k) 897 (256 + i) (first + 1) (λ h. omega arith)
-        ∙ put index (256 + first) (256 + i) k (omega arith) (ap (λ (z : ℕ). 256 + z) e)
-
     pub start_added : Indexes s (with_start_of index k) (with_start g k)
-    unfolding first longer
+    unfolding first
     start_added =
         record {
-          labels = start_kept 896 (λ e. omega arith) (λ e. omega arith) ∙ x.labels;
-          few_labels = let e = start_kept 896 (λ e. omega arith) (λ e. omega arith) in let few = x.few_labels in omega arith;
-          label = λ i m e.
-              let b = at_below g.labels i e in
-              let l = x.labels in
-              let few' = x.few_labels in
-              stands_so
-              (x.label i m e)
-              (start_kept i (λ h. omega arith) (λ h. omega arith))
-              (start_kept (128 + i) (λ h. omega arith) (λ h. omega arith))
-              refl;
-          starts = one_more first (start_count longer) g.starts k start_number x.starts;
-          few_starts = let e = start_number in omega arith;
+          labels = x.labels;
+          few_labels = x.few_labels;
+          label = x.label;
+          starts = one_more first (first + 1) g.starts k refl x.starts;
+          few_starts = omega arith;
           start = λ i t e. ⊎_elim (older i t) (newest i t) (at_end g.starts k i t e);
-          rules = start_kept 898 (λ e. omega arith) (λ e. omega arith) ∙ x.rules;
-          few_rules = let e = start_kept 898 (λ e. omega arith) (λ e. omega arith) in let few = x.few_rules in omega arith;
-          rule = λ i r e.
-              let b = at_below g.rules i e in
-              let m = x.rules in
-              let few' = x.few_rules in
-              rule_so
-              (x.rule i r e)
-              (start_kept (384 + i) (λ h. omega arith) (λ h. omega arith))
-              (start_kept (512 + i) (λ h. omega arith) (λ h. omega arith))
-              (start_kept (640 + i) (λ h. omega arith) (λ h. omega arith))
-              (start_kept (768 + i) (λ h. omega arith) (λ h. omega arith));
-          room = length-set (set index (256 + first) k) 897 (first + 1) ∙ length-set index (256 + first) k ∙ x.room;
+          rules = x.rules;
+          few_rules = x.few_rules;
+          rule = λ i r e. rule_so (x.rule i r e) refl refl refl refl;
+          room = record {
+            names = x.room.names;
+            start_types = length-set index.start_types first k ∙ x.room.start_types;
+            rule_types = x.room.rule_types;
+            rule_labels = x.room.rule_labels;
+            contents_from = x.room.contents_from;
+            contents_to = x.room.contents_to;
+          };
         }
       where
-        older : (i t : ℕ) → get_elem? g.starts i ≡ just t → start_type longer i ≡ t
+        older : (i t : ℕ) → get_elem? g.starts i ≡ just t → start_type (with_start_of index k) i ≡ t
         older i t e =
             let b = at_below g.starts i e in
             let m = x.starts in
-            start_kept (256 + i) (λ h. omega arith) (λ h. omega arith) ∙ x.start i t e
+            kept index.start_types first i k (λ h. omega arith) ∙ x.start i t e
 
-        newest : (i t : ℕ) → (i ≡ length g.starts) × (k ≡ t) → start_type longer i ≡ t
-        newest i t p = start_put i (p.0 ∙ sym x.starts) ∙ p.1
+        newest : (i t : ℕ) → (i ≡ length g.starts) × (k ≡ t) → start_type (with_start_of index k) i ≡ t
+        newest i t p = let room = x.room.start_types in put index.start_types first i k (omega arith) (p.0 ∙ sym x.starts) ∙ p.1
 
   module _ (k l from to : ℕ) (few : rule_count index < 128) where
     last : ℕ
     last = rule_count index
 
-    -- the row of each part once it is put down
-    typed : List ℕ
-    typed = set index (384 + last) k
-
-    labelled : List ℕ
-    labelled = set typed (512 + last) l
-
-    begun : List ℕ
-    begun = set labelled (640 + last) from
-
-    ended : List ℕ
-    ended = set begun (768 + last) to
-
-    longest : List ℕ
+    longest : TableIndex
     longest = with_rule_at index k l from to
-
-    room_typed : length typed ≡ 899
-    unfolding typed
-    room_typed = length-set index (384 + last) k ∙ x.room
-
-    room_labelled : length labelled ≡ 899
-    unfolding labelled
-    room_labelled = length-set typed (512 + last) l ∙ room_typed
-
-    room_begun : length begun ≡ 899
-    unfolding begun
-    room_begun = length-set labelled (640 + last) from ∙ room_labelled
-
-    room_ended : length ended ≡ 899
-    unfolding ended
-    room_ended = length-set begun (768 + last) to ∙ room_begun
-
-    rule_kept : (i : ℕ) → (i ≡ 384 + last → ⊥) → (i ≡ 512 + last → ⊥) → (i ≡ 640 + last → ⊥) → (i ≡ 768 + last → ⊥) → (i ≡ 898 → ⊥)
-        → get_or longest i 0 ≡ get_or index i 0
-    unfolding last typed labelled begun ended longest
-    rule_kept i p q r t u =
-        kept ended 898 i (last + 1) u
-        ∙ kept begun (768 + last) i to t
-        ∙ kept labelled (640 + last) i from r
-        ∙ kept typed (512 + last) i l q
-        ∙ kept index (384 + last) i k p
-
-    rule_number : rule_count longest ≡ rule_count index + 1
-    unfolding last typed labelled begun ended longest
-    rule_number = let room = room_ended in put ended 898 898 (last + 1) (omega arith) refl
-
-    rule_put : (i : ℕ) → i ≡ last
-        → (rule_type longest i ≡ k) × (rule_label longest i ≡ l) × (content_from longest i ≡ from) × (content_to longest i ≡ to)
-    unfolding last typed labelled begun ended longest
-    rule_put i e =
-        let room = x.room in
-        let room₁ = room_typed in
-        let room₂ = room_labelled in
-        let room₃ = room_begun in (
-          kept ended 898 (384 + i) (last + 1) (λ h. omega arith)
-              ∙ kept begun (768 + last) (384 + i) to (λ h. omega arith)
-              ∙ kept labelled (640 + last) (384 + i) from (λ h. omega arith)
-              ∙ kept typed (512 + last) (384 + i) l (λ h. omega arith)
-              ∙ put index (384 + last) (384 + i) k (omega arith) (ap (λ (z : ℕ). 384 + z) e),
-          kept ended 898 (512 + i) (last + 1) (λ h. omega arith)
-              ∙ kept begun (768 + last) (512 + i) to (λ h. omega arith)
-              ∙ kept labelled (640 + last) (512 + i) from (λ h. omega arith)
-              ∙ put typed (512 + last) (512 + i) l (omega arith) (ap (λ (z : ℕ). 512 + z) e),
-          kept ended 898 (640 + i) (last + 1) (λ h. omega arith)
-              ∙ kept begun (768 + last) (640 + i) to (λ h. omega arith)
-              ∙ put labelled (640 + last) (640 + i) from (omega arith) (ap (λ (z : ℕ). 640 + z) e),
-          kept ended 898 (768 + i) (last + 1) (λ h. omega arith)
-              ∙ put begun (768 + last) (768 + i) to (omega arith) (ap (λ (z : ℕ). 768 + z) e),
-        )
 
     pub rule_added : (r : Rule) → k ≡ r.type → l ≡ r.label → BytesStand s from to (content_bytes r.content)
         → TagBefore s (from - 2) (rule_tag r.text) → Indexes s (with_rule_at index k l from to) (with_rule g r)
-    unfolding last typed labelled begun ended longest
+    unfolding last longest
     rule_added r is_type is_label h tag =
         record {
-          labels = other 896 (omega arith) (omega arith) ∙ x.labels;
-          few_labels = let e = other 896 (omega arith) (omega arith) in let few = x.few_labels in omega arith;
-          label = λ i m e.
-              let b = at_below g.labels i e in
-              let l = x.labels in
-              let few' = x.few_labels in
-              stands_so (x.label i m e) (early i (omega arith)) (early (128 + i) (omega arith)) refl;
-          starts = other 897 (omega arith) (omega arith) ∙ x.starts;
-          few_starts = let e = other 897 (omega arith) (omega arith) in let few = x.few_starts in omega arith;
-          start = λ i t e.
-              let b = at_below g.starts i e in
-              let m = x.starts in
-              let few' = x.few_starts in
-              early (256 + i) (omega arith) ∙ x.start i t e;
-          rules = one_more last (rule_count longest) g.rules r rule_number x.rules;
-          few_rules = let e = rule_number in omega arith;
+          labels = x.labels;
+          few_labels = x.few_labels;
+          label = x.label;
+          starts = x.starts;
+          few_starts = x.few_starts;
+          start = x.start;
+          rules = one_more last (last + 1) g.rules r refl x.rules;
+          few_rules = omega arith;
           rule = λ i q e. ⊎_elim (older i q) (newest i q) (at_end g.rules r i q e);
-          room = length-set ended 898 (last + 1) ∙ room_ended;
+          room = record {
+            names = x.room.names;
+            start_types = x.room.start_types;
+            rule_types = length-set index.rule_types last k ∙ x.room.rule_types;
+            rule_labels = length-set index.rule_labels last l ∙ x.room.rule_labels;
+            contents_from = length-set index.contents_from last from ∙ x.room.contents_from;
+            contents_to = length-set index.contents_to last to ∙ x.room.contents_to;
+          };
         }
       where
-        early : (i : ℕ) → i < 384 → get_or longest i 0 ≡ get_or index i 0
-        early i h =
-            rule_kept i (λ e. omega arith) (λ e. omega arith) (λ e. omega arith) (λ e. omega arith) (λ e. omega arith)
-
-        other : (i : ℕ) → 896 ≤ i → i < 898 → get_or longest i 0 ≡ get_or index i 0
-        other i h h' =
-            rule_kept i (λ e. omega arith) (λ e. omega arith) (λ e. omega arith) (λ e. omega arith) (λ e. omega arith)
-
-        at_other : (i : ℕ) → i < last → (row : ℕ) → (row + i ≡ 384 + last → ⊥) → (row + i ≡ 512 + last → ⊥)
-            → (row + i ≡ 640 + last → ⊥) → (row + i ≡ 768 + last → ⊥) → row ≤ 768 → get_or longest (row + i) 0 ≡ get_or index (row + i) 0
-        at_other i h row p q r t u = rule_kept (row + i) p q r t (λ e. omega arith)
-
         older : (i : ℕ) (q : Rule) → get_elem? g.rules i ≡ just q → RuleAt s longest i q
         older i q e =
             let b = at_below g.rules i e in
             let m = x.rules in
-            let b' : i < last = omega arith in
+            let other : i ≡ last → ⊥ = λ z. omega arith in
             rule_so
             (x.rule i q e)
-            (at_other i b' 384 (λ z. omega arith) (λ z. omega arith) (λ z. omega arith) (λ z. omega arith) (omega arith))
-            (at_other i b' 512 (λ z. omega arith) (λ z. omega arith) (λ z. omega arith) (λ z. omega arith) (omega arith))
-            (at_other i b' 640 (λ z. omega arith) (λ z. omega arith) (λ z. omega arith) (λ z. omega arith) (omega arith))
-            (at_other i b' 768 (λ z. omega arith) (λ z. omega arith) (λ z. omega arith) (λ z. omega arith) (omega arith))
+            (kept index.rule_types last i k other)
+            (kept index.rule_labels last i l other)
+            (kept index.contents_from last i from other)
+            (kept index.contents_to last i to other)
 
         newest : (i : ℕ) (q : Rule) → (i ≡ length g.rules) × (r ≡ q) → RuleAt s longest i q
         newest i q p =
-            let w = rule_put i (p.0 ∙ sym x.rules) in
+            let at : i ≡ last = p.0 ∙ sym x.rules in
+            let r₁ = x.room.rule_types in
+            let r₂ = x.room.rule_labels in
+            let r₃ = x.room.contents_from in
+            let r₄ = x.room.contents_to in
+            let begins : content_from longest i ≡ from = put index.contents_from last i from (omega arith) at in
             record {
-              type = w.0 ∙ is_type ∙ ap (λ (z : Rule). z.type) p.1;
-              label = w.1 ∙ is_label ∙ ap (λ (z : Rule). z.label) p.1;
-              content = stands_so h w.2 w.3 (ap (λ (z : Rule). content_bytes z.content) p.1);
+              type = put index.rule_types last i k (omega arith) at ∙ is_type ∙ ap (λ (z : Rule). z.type) p.1;
+              label = put index.rule_labels last i l (omega arith) at ∙ is_label ∙ ap (λ (z : Rule). z.label) p.1;
+              content = stands_so h begins (put index.contents_to last i to (omega arith) at) (ap (λ (z : Rule). content_bytes z.content) p.1);
               tag =
                   subst (λ (z : Rule). TagBefore s (content_from longest i - 2) (rule_tag z.text)) p.1
-                  (subst (λ (n : ℕ). TagBefore s (n - 2) (rule_tag r.text)) (sym w.2) tag);
+                  (subst (λ (n : ℕ). TagBefore s (n - 2) (rule_tag r.text)) (sym begins) tag);
             }
 
 -- an index with no labels, starts or rules is that of the empty table
-pub none_indexed : (s index : List ℕ) → length index ≡ 899 → Indexes s (with_none index) empty_table
+pub none_indexed : (s : List ℕ) (index : TableIndex) → HasRows index → Indexes s (with_none index) empty_table
 none_indexed s index room =
-    let room₁ = length-set index 896 0 ∙ room in
-    let room₂ = length-set (set index 896 0) 897 0 ∙ room₁ in
-    let labels : label_count (with_none index) ≡ 0 =
-    kept (set (set index 896 0) 897 0) 898 896 0 (λ e. omega arith)
-    ∙ kept (set index 896 0) 897 896 0 (λ e. omega arith)
-    ∙ put index 896 896 0 (omega arith) refl in
-    let starts : start_count (with_none index) ≡ 0 =
-    kept (set (set index 896 0) 897 0) 898 897 0 (λ e. omega arith) ∙ put (set index 896 0) 897 897 0 (omega arith) refl in
-    let rules : rule_count (with_none index) ≡ 0 = put (set (set index 896 0) 897 0) 898 898 0 (omega arith) refl in
     record {
-      labels = labels;
+      labels = refl;
       few_labels = omega arith;
       label = λ i n e. let z = at_below {A = Name} [] i e in absurd (omega arith);
-      starts = starts;
+      starts = refl;
       few_starts = omega arith;
       start = λ i k e. let z = at_below {A = ℕ} [] i e in absurd (omega arith);
-      rules = rules;
+      rules = refl;
       few_rules = omega arith;
       rule = λ i r e. let z = at_below {A = Rule} [] i e in absurd (omega arith);
-      room = length-set (set (set index 896 0) 897 0) 898 0 ∙ room₂;
+      room = record {
+        names = room.names;
+        start_types = room.start_types;
+        rule_types = room.rule_types;
+        rule_labels = room.rule_labels;
+        contents_from = room.contents_from;
+        contents_to = room.contents_to;
+      };
     }

@@ -1,4 +1,5 @@
 -- Reading a table field by field: how far reading came, and where each field leads.
+use Rattle.reader.specs.declared.index.TableIndex.{TableIndex}
 use Prim.Native.Nat.{ℕ, ◌≤◌, ◌<◌, ◌-◌}
 use native.Mathlib.Omega.{arith}
 use mathlib.Core.Bool.{true, not, Bool, false}
@@ -12,15 +13,14 @@ use Rattle.grammar.specs.Limits.{input_limit}
 use Rattle.grammar.specs.LimitSets.{limits_of}
 use Rattle.grammar.specs.Names.{Classes}
 use Rattle.grammar.specs.Table.{Table, empty_table}
-use Rattle.grammar.specs.Outcome.{Outcome, refused, ◌>>=◌, ◌>>◌, turn_back}
+use Rattle.std.specs.Prelude.{Result, Err, Ok}
+use Rattle.grammar.specs.Outcome.{◌>>=◌, ◌>>◌, turn_back}
 use Rattle.grammar.specs.Answers.{reading}
 use Rattle.grammar.specs.Fields.{Field, Fields, no_bytes, past_end, ◌then◌, fields_of}
 use Rattle.grammar.specs.ReadTable.{label_tag, start_tag, rule_tag, table_end_tag, is_empty, bytes_left, read_label, read_start, read_rule, read_table_field, read_table_fields, read_table}
 use Rattle.grammar.specs.declared.SizeLimits.{SizeLimits}
 use Rattle.grammar.specs.declared.Refusal.{Refusal}
 use Rattle.grammar.specs.declared.Refusal.TheVariants.{InputTooLong, FieldPastEnd, BadField, BytesAfterEnd}
-use Rattle.grammar.specs.declared.Reading.{Reading}
-use Rattle.grammar.specs.declared.Reading.TheVariants.{Readable, Refused as Unreadable}
 use Rattle.theory.proofs.Bytes.OutcomeLaws.{given_then, no_fault, had_no_fault, given_eq}
 use Rattle.theory.proofs.Bytes.FieldBytes.{fields_empty, fields_none}
 use Rattle.theory.proofs.Bytes.ReadSteps.{rule_field_lem as rule_by_tag, end_field, next_field}
@@ -50,7 +50,7 @@ module _ (limits : SizeLimits) (classes : Classes) (g : Table) (tag : ℕ) (valu
       ∙ rule_by_tag (limits_of limits) classes g text value
 
   pub foreign_field : (tag ≡ label_tag → ⊥) → (tag ≡ start_tag → ⊥) → (tag ≡ rule_tag false → ⊥) → (tag ≡ rule_tag true → ⊥)
-      → read_table_field (limits_of limits) classes g (record { tag = tag; value = value }) ≡ refused BadField
+      → read_table_field (limits_of limits) classes g (record { tag = tag; value = value }) ≡ Err BadField
   unfolding read_table_field
   foreign_field n m k l =
       rw (
@@ -62,17 +62,17 @@ module _ (limits : SizeLimits) (classes : Classes) (g : Table) (tag : ℕ) (valu
       )
 
 -- the table's fields as a whole
-abbrev pub whole_table : SizeLimits → Classes → List ℕ → Outcome Table
+abbrev pub whole_table : SizeLimits → Classes → List ℕ → Result Table Refusal
 whole_table limits classes s = read_table_fields (limits_of limits) classes empty_table (fields_of s)
 
 -- Up to this place a table is read, which the index indexes; the whole reads as the rest does after that table.
-pub record TableReached (limits : SizeLimits) (classes : Classes) (s : List ℕ) (at : ℕ) (index : List ℕ) : Type 0 where
+pub record TableReached (limits : SizeLimits) (classes : Classes) (s : List ℕ) (at : ℕ) (index : TableIndex) : Type 0 where
   pub table : Table
   pub indexes : Indexes s index table
   pub inside : at ≤ length s
   pub rest : whole_table limits classes s ≡ read_table_fields (limits_of limits) classes table (fields_of (drop at s))
 
-pub reached_none : (limits : SizeLimits) (classes : Classes) (s index : List ℕ) → Indexes s index empty_table → TableReached limits classes s 0 index
+pub reached_none : (limits : SizeLimits) (classes : Classes) (s : List ℕ) (index : TableIndex) → Indexes s index empty_table → TableReached limits classes s 0 index
 reached_none limits classes s index x = record { table = empty_table; indexes = x; inside = omega arith; rest = refl }
 
 pub found_tag : {s : List ℕ} {at tag from to : ℕ} → FoundField s at tag from to → TagBefore s from tag
@@ -84,20 +84,20 @@ found_tag {s} {at} {tag} {from} {to} w =
 pub found_inside : {s : List ℕ} {at tag from to : ℕ} → FoundField s at tag from to → Inside s from to
 found_inside w = record { order = w.order; within = w.within }
 
-module _ {limits : SizeLimits} {classes : Classes} {s : List ℕ} {at : ℕ} {index : List ℕ} (r : TableReached limits classes s at index) where
+module _ {limits : SizeLimits} {classes : Classes} {s : List ℕ} {at : ℕ} {index : TableIndex} (r : TableReached limits classes s at index) where
   pub indexed : TableIndexed s index
   indexed = record { table = r.table; indexes = r.indexes }
 
   pub ends_early : (field_at s at ≡ NoBytes) ⊎ (field_at s at ≡ PastEnd)
-      → Reads s (whole_table limits classes s) (Unreadable FieldPastEnd) index
+      → Reads s (whole_table limits classes s) (Err FieldPastEnd) index
   unfolding read_table_fields
   ends_early e =
       refused_reads s (whole_table limits classes s) FieldPastEnd index (unreadable (whole_table limits classes s) FieldPastEnd (⊎_elim none past e))
     where
-      none : field_at s at ≡ NoBytes → whole_table limits classes s ≡ refused FieldPastEnd
+      none : field_at s at ≡ NoBytes → whole_table limits classes s ≡ Err FieldPastEnd
       none p = r.rest ∙ ap (read_table_fields (limits_of limits) classes r.table) (field_none s at p).1
 
-      past : field_at s at ≡ PastEnd → whole_table limits classes s ≡ refused FieldPastEnd
+      past : field_at s at ≡ PastEnd → whole_table limits classes s ≡ Err FieldPastEnd
       past p = r.rest ∙ ap (read_table_fields (limits_of limits) classes r.table) (field_past s at p).1
 
   module _ {tag from to : ℕ} (w : FoundField s at tag from to) where
@@ -110,7 +110,7 @@ module _ {limits : SizeLimits} {classes : Classes} {s : List ℕ} {at : ℕ} {in
         w.fields
         ∙ ap (λ (v : List ℕ). record { tag = tag; value = v } then fields_of (drop to s)) (part_slice s from to (found_inside w))
 
-    pub ends_here : tag ≡ table_end_tag → (answer : Reading) → answer ≡ reading (end_outcome r.table (part s from to) (fields_of (drop to s)))
+    pub ends_here : tag ≡ table_end_tag → (answer : Result (Unit {0}) Refusal) → answer ≡ reading (end_outcome r.table (part s from to) (fields_of (drop to s)))
         → Reads s (whole_table limits classes s) answer index
     unfolding here
     ends_here e answer a =
@@ -127,7 +127,7 @@ module _ {limits : SizeLimits} {classes : Classes} {s : List ℕ} {at : ℕ} {in
               subst (Indexes s index) (given_eq d.1) r.indexes;
         }
 
-    module _ (other : tag ≡ table_end_tag → ⊥) (read : Reading) (index' : List ℕ)
+    module _ (other : tag ≡ table_end_tag → ⊥) (read : Result (Unit {0}) Refusal) (index' : TableIndex)
         (so : Reads s (read_table_field (limits_of limits) classes r.table (record { tag = tag; value = part s from to })) read index') where
       goes_on : whole_table limits classes s
           ≡ (read_table_field (limits_of limits) classes r.table here >>= (λ more. read_table_fields (limits_of limits) classes more (fields_of (drop to s))))
@@ -137,19 +137,19 @@ module _ {limits : SizeLimits} {classes : Classes} {s : List ℕ} {at : ℕ} {in
           ∙ ap (read_table_fields (limits_of limits) classes r.table) fields_here
           ∙ next_field (limits_of limits) classes r.table here (fields_of (drop to s)) (ne_eqb tag table_end_tag other)
 
-      pub stops_here : (q : Refusal) → read ≡ Unreadable q → Reads s (whole_table limits classes s) (Unreadable q) index'
+      pub stops_here : (q : Refusal) → read ≡ Err q → Reads s (whole_table limits classes s) (Err q) index'
       unfolding here
       stops_here q e =
           let f = was_unreadable (read_table_field (limits_of limits) classes r.table here) q (sym so.answer ∙ e) in
-          let whole : whole_table limits classes s ≡ refused q =
+          let whole : whole_table limits classes s ≡ Err q =
           goes_on
-          ∙ ap (λ (o : Outcome Table). o >>= (λ more. read_table_fields (limits_of limits) classes more (fields_of (drop to s)))) f in
+          ∙ ap (λ (o : Result Table Refusal). o >>= (λ more. read_table_fields (limits_of limits) classes more (fields_of (drop to s)))) f in
           record {
             answer = sym (unreadable (whole_table limits classes s) q whole);
             index_of = λ g p. absurd (never_given (whole_table limits classes s) q g whole p);
           }
 
-      pub reached_next : read ≡ Readable → TableReached limits classes s to index'
+      pub reached_next : read ≡ Ok tt → TableReached limits classes s to index'
       unfolding here
       reached_next e =
           let f = was_readable (read_table_field (limits_of limits) classes r.table here) (sym so.answer ∙ e) in
@@ -162,19 +162,19 @@ module _ {limits : SizeLimits} {classes : Classes} {s : List ℕ} {at : ℕ} {in
 
 -- what an end field says
 module _ (s : List ℕ) (from to : ℕ) (h : Inside s from to) (g : Table) where
-  ending : Outcome Table
+  ending : Result Table Refusal
   ending = end_outcome g (part s from to) (fields_of (drop to s))
 
-  pub end_with_value : (from ≡ to → ⊥) → reading (end_outcome g (part s from to) (fields_of (drop to s))) ≡ Unreadable BadField
+  pub end_with_value : (from ≡ to → ⊥) → reading (end_outcome g (part s from to) (fields_of (drop to s))) ≡ Err BadField
   unfolding ending
   end_with_value n =
       unreadable ending BadField (fault _ BadField _ (ap not (is_some (part s from to) (let size = part_size s from to h in let order = h.order in omega arith))))
 
   module _ (e : from ≡ to) where
-    no_value : {B : Type 0} (next : Outcome B) → (turn_back (not (is_empty (part s from to))) BadField >> next) ≡ next
+    no_value : {B : Type 0} (next : Result B Refusal) → (turn_back (not (is_empty (part s from to))) BadField >> next) ≡ next
     no_value next = no_fault _ BadField next (ap not (is_empty_lem (part s from to) (let size = part_size s from to h in omega arith)))
 
-    pub end_with_more : (to ≡ length s → ⊥) → reading (end_outcome g (part s from to) (fields_of (drop to s))) ≡ Unreadable BytesAfterEnd
+    pub end_with_more : (to ≡ length s → ⊥) → reading (end_outcome g (part s from to) (fields_of (drop to s))) ≡ Err BytesAfterEnd
     unfolding ending
     end_with_more n = unreadable ending BytesAfterEnd (no_value _ ∙ fault _ BytesAfterEnd _ (left (fields_of (drop to s)) refl))
       where
@@ -186,7 +186,7 @@ module _ (s : List ℕ) (from to : ℕ) (h : Inside s from to) (g : Table) where
         left past_end p = refl
         left (f then fs) p = refl
 
-    pub end_reads : to ≡ length s → reading (end_outcome g (part s from to) (fields_of (drop to s))) ≡ Readable
+    pub end_reads : to ≡ length s → reading (end_outcome g (part s from to) (fields_of (drop to s))) ≡ Ok tt
     unfolding ending
     end_reads p =
         readable
@@ -196,7 +196,7 @@ module _ (s : List ℕ) (from to : ℕ) (h : Inside s from to) (g : Table) where
 
 -- an input that is too long, and any other
 module _ (limits : SizeLimits) (classes : Classes) (s : List ℕ) where
-  pub table_too_long : input_limit < length s → read_table (limits_of limits) classes s ≡ refused InputTooLong
+  pub table_too_long : input_limit < length s → read_table (limits_of limits) classes s ≡ Err InputTooLong
   unfolding read_table
   table_too_long h = fault (ltb input_limit (length s)) InputTooLong _ (lt-ltb input_limit (length s) h)
 

@@ -6,29 +6,34 @@ ghost use Rattle.grammar.specs.Answers.{reading_numbers};
 ghost use Rattle.grammar.specs.Calls.{after, label_name};
 ghost use Rattle.grammar.specs.Promises.{TableReading, Naming, PartOf};
 
-use crate::index::INDEX;
-use crate::label_places::{LabelFound, find_label};
+use crate::index::TableIndex;
+use crate::label_places::find_label;
 use crate::tables::read_table;
 use basis::classes::classes_load;
 use basis::limits::limits_of;
 use basis::refusals::number_of;
 use basis::work::clear_work;
-use grammar::{Reading, Refusal, Size};
+use grammar::{Refusal, Size};
 
 // Does a table read?
-pub fn table_reads(size: Size, classes: &[u8], table: &[u8], work: &mut [u32]) -> Reading
+pub fn table_reads(
+    size: Size,
+    classes: &[u8],
+    table: &[u8],
+    work: &mut [u32],
+) -> Result<(), Refusal>
     ensures { TableReading (size_limits size) classes.now table.now work.old
         (after (reading_numbers result) [] work.new) }
 {
     let limits = limits_of(size);
     if work.len() < limits.words {
-        return Reading::Refused(Refusal::WorkTooShort);
+        return Err(Refusal::WorkTooShort);
     }
-    clear_work(limits, work);
+    clear_work(limits.words, work);
     if !classes_load(classes) {
-        return Reading::Refused(Refusal::BadClasses);
+        return Err(Refusal::BadClasses);
     }
-    let mut index = [0u16; INDEX];
+    let mut index = TableIndex::new();
     read_table(limits, classes, table, &mut index)
 }
 
@@ -52,13 +57,13 @@ pub fn label_name<'a>(
         return &table[0..0];
     }
     let found = find_label(limits, classes, table, label);
-    clear_work(limits, work);
+    clear_work(limits.words, work);
     match found {
-        LabelFound::Refused(r) => {
+        Err(r) => {
             *number = number_of(r);
             &table[0..0]
         }
-        LabelFound::At(from, to) => {
+        Ok((from, to)) => {
             *number = 0;
             &table[from..to]
         }

@@ -2,9 +2,7 @@
 ghost use Rattle.std.specs.Prelude.{◌≡◌};
 ghost use Rattle.reader.specs.FieldAt.{field_at};
 
-use basis::numbers::wide;
-
-// What stands at a place of an input.
+// What stands at a place of an input: three answers, since the definition keeps the input's end apart from a field that runs past it.
 #[derive(Clone, Copy)]
 pub enum FieldAt {
     // A whole field: its tag, where its value begins and where it ends.
@@ -26,8 +24,8 @@ pub fn field_at(s: &[u8], at: usize) -> FieldAt
     if size - at < 3 {
         return FieldAt::PastEnd;
     }
-    let high = wide(s[at + 1]);
-    let low = wide(s[at + 2]);
+    let high = usize::from(s[at + 1]);
+    let low = usize::from(s[at + 2]);
     let from = at + 3;
     let length = high * 256 + low;
     if size - from < length {

@@ -1,151 +1,161 @@
-// Where the labels, starts and rules of a table stand in its bytes, each in the order of the file: an index of seven rows of 128
-// numbers, and then how many labels, starts and rules there are.
-ghost use Rattle.std.specs.Prelude.{◌≡◌, ◌<◌, length};
-ghost use Rattle.reader.specs.TableIndex.{label_from, label_to, start_type, rule_type, rule_label, content_from, content_to};
-ghost use Rattle.reader.specs.TableIndex.{label_count, start_count, rule_count, with_none, with_label_at, with_start_of, with_rule_at};
+// Where the labels, starts and rules of a table stand in its bytes, each in the order of the file.
+ghost use Rattle.std.specs.Prelude.{◌≡◌, ◌<◌};
 
-use basis::numbers::wider;
-
-// How many numbers an index has.
-pub const INDEX: usize = 899;
-
-// Where the rows begin, after the first, which has where the labels' names begin.
-const LABEL_TO: usize = 128;
-
-const START_TYPE: usize = 256;
-
-const RULE_TYPE: usize = 384;
-
-const RULE_LABEL: usize = 512;
-
-pub const CONTENT_FROM: usize = 640;
-
-pub const CONTENT_TO: usize = 768;
-
-// Where the counts stand.
-const LABELS: usize = 896;
-
-const STARTS: usize = 897;
-
-const RULES: usize = 898;
-
-// Where the name of a label begins.
-pub fn label_from(index: &[u16; 899], i: usize) -> usize
-    requires { i < 128 }
-    ensures { result ≡ label_from index.now i }
-{
-    wider(index[i])
+// An index of at most 128 labels, 128 starts and 128 rules.
+#[derive(Drop)]
+pub struct TableIndex {
+    // Where the name of each label begins, and 128 places later where it ends.
+    pub names: [u16; 256],
+    pub start_types: [u16; 128],
+    pub rule_types: [u16; 128],
+    pub rule_labels: [u16; 128],
+    pub contents_from: [u16; 128],
+    pub contents_to: [u16; 128],
+    pub labels: usize,
+    pub starts: usize,
+    pub rules: usize,
 }
 
-// Where it ends.
-pub fn label_to(index: &[u16; 899], i: usize) -> usize
-    requires { i < 128 }
-    ensures { result ≡ label_to index.now i }
-{
-    wider(index[LABEL_TO + i])
-}
+impl TableIndex {
+    ghost use Rattle.reader.specs.TableIndex.{label_from, label_to, start_type, rule_type, rule_label, content_from, content_to};
+    ghost use Rattle.reader.specs.TableIndex.{label_count, start_count, rule_count, FreshIndex, HasRows};
+    ghost use Rattle.reader.specs.TableIndex.{with_none, with_label_at, with_start_of, with_rule_at};
 
-// The type of a start.
-pub fn start_type(index: &[u16; 899], i: usize) -> usize
-    requires { i < 128 }
-    ensures { result ≡ start_type index.now i }
-{
-    wider(index[START_TYPE + i])
-}
+    // An index of no labels, starts or rules.
+    pub fn new() -> TableIndex
+        ensures { FreshIndex result }
+    {
+        TableIndex {
+            names: [0; 256],
+            start_types: [0; 128],
+            rule_types: [0; 128],
+            rule_labels: [0; 128],
+            contents_from: [0; 128],
+            contents_to: [0; 128],
+            labels: 0,
+            starts: 0,
+            rules: 0,
+        }
+    }
 
-// The type of a rule.
-pub fn rule_type(index: &[u16; 899], i: usize) -> usize
-    requires { i < 128 }
-    ensures { result ≡ rule_type index.now i }
-{
-    wider(index[RULE_TYPE + i])
-}
+    // Where the name of a label begins.
+    pub fn label_from(&self, i: usize) -> usize
+        requires { i < 128 }
+        ensures { result ≡ label_from self.now i }
+    {
+        usize::from(self.names[i])
+    }
 
-// Its label.
-pub fn rule_label(index: &[u16; 899], i: usize) -> usize
-    requires { i < 128 }
-    ensures { result ≡ rule_label index.now i }
-{
-    wider(index[RULE_LABEL + i])
-}
+    // Where it ends.
+    pub fn label_to(&self, i: usize) -> usize
+        requires { i < 128 }
+        ensures { result ≡ label_to self.now i }
+    {
+        usize::from(self.names[128 + i])
+    }
 
-// Where its content begins.
-pub fn content_from(index: &[u16; 899], i: usize) -> usize
-    requires { i < 128 }
-    ensures { result ≡ content_from index.now i }
-{
-    wider(index[CONTENT_FROM + i])
-}
+    // The type of a start.
+    pub fn start_type(&self, i: usize) -> usize
+        requires { i < 128 }
+        ensures { result ≡ start_type self.now i }
+    {
+        usize::from(self.start_types[i])
+    }
 
-// Where its content ends.
-pub fn content_to(index: &[u16; 899], i: usize) -> usize
-    requires { i < 128 }
-    ensures { result ≡ content_to index.now i }
-{
-    wider(index[CONTENT_TO + i])
-}
+    // The type of a rule.
+    pub fn rule_type(&self, i: usize) -> usize
+        requires { i < 128 }
+        ensures { result ≡ rule_type self.now i }
+    {
+        usize::from(self.rule_types[i])
+    }
 
-// How many labels there are.
-pub fn label_count(index: &[u16; 899]) -> usize
-    ensures { result ≡ label_count index.now }
-{
-    wider(index[LABELS])
-}
+    // Its label.
+    pub fn rule_label(&self, i: usize) -> usize
+        requires { i < 128 }
+        ensures { result ≡ rule_label self.now i }
+    {
+        usize::from(self.rule_labels[i])
+    }
 
-// How many starts.
-pub fn start_count(index: &[u16; 899]) -> usize
-    ensures { result ≡ start_count index.now }
-{
-    wider(index[STARTS])
-}
+    // Where its content begins.
+    pub fn content_from(&self, i: usize) -> usize
+        requires { i < 128 }
+        ensures { result ≡ content_from self.now i }
+    {
+        usize::from(self.contents_from[i])
+    }
 
-// How many rules.
-pub fn rule_count(index: &[u16; 899]) -> usize
-    ensures { result ≡ rule_count index.now }
-{
-    wider(index[RULES])
-}
+    // Where its content ends.
+    pub fn content_to(&self, i: usize) -> usize
+        requires { i < 128 }
+        ensures { result ≡ content_to self.now i }
+    {
+        usize::from(self.contents_to[i])
+    }
 
-// An index of no labels, starts or rules.
-pub fn clear_index(index: &mut [u16])
-    requires { length index.old ≡ 899 }
-    ensures { index.new ≡ with_none index.old }
-{
-    index[LABELS] = 0;
-    index[STARTS] = 0;
-    index[RULES] = 0;
-}
+    // How many labels there are.
+    pub fn label_count(&self) -> usize
+        ensures { result ≡ label_count self.now }
+    {
+        self.labels
+    }
 
-// One label more.
-pub fn add_label(index: &mut [u16; 899], from: usize, to: usize)
-    requires { (label_count index.old < 128) × (from < 65536) × (to < 65536) }
-    ensures { index.new ≡ with_label_at index.old from to }
-{
-    let n = index[LABELS] as usize;
-    index[n] = from as u16;
-    index[LABEL_TO + n] = to as u16;
-    index[LABELS] = (n + 1) as u16;
-}
+    // How many starts.
+    pub fn start_count(&self) -> usize
+        ensures { result ≡ start_count self.now }
+    {
+        self.starts
+    }
 
-// One start more.
-pub fn add_start(index: &mut [u16; 899], ty: u8)
-    requires { start_count index.old < 128 }
-    ensures { index.new ≡ with_start_of index.old ty }
-{
-    let n = index[STARTS] as usize;
-    index[START_TYPE + n] = ty as u16;
-    index[STARTS] = (n + 1) as u16;
-}
+    // How many rules.
+    pub fn rule_count(&self) -> usize
+        ensures { result ≡ rule_count self.now }
+    {
+        self.rules
+    }
 
-// One rule more.
-pub fn add_rule(index: &mut [u16; 899], ty: u8, label: u8, from: usize, to: usize)
-    requires { (rule_count index.old < 128) × (from < 65536) × (to < 65536) }
-    ensures { index.new ≡ with_rule_at index.old ty label from to }
-{
-    let n = index[RULES] as usize;
-    index[RULE_TYPE + n] = ty as u16;
-    index[RULE_LABEL + n] = label as u16;
-    index[CONTENT_FROM + n] = from as u16;
-    index[CONTENT_TO + n] = to as u16;
-    index[RULES] = (n + 1) as u16;
+    // Leaves no labels, starts or rules.
+    pub fn clear_index(&mut self)
+        ensures cleared { self.new ≡ with_none self.old }
+        ensures rows { HasRows self.old }
+    {
+        self.labels = 0;
+        self.starts = 0;
+        self.rules = 0;
+    }
+
+    // One label more.
+    pub fn add_label(&mut self, from: usize, to: usize)
+        requires { (label_count self.old < 128) × (from < 65536) × (to < 65536) }
+        ensures { self.new ≡ with_label_at self.old from to }
+    {
+        let n = self.labels;
+        self.names[n] = from as u16;
+        self.names[128 + n] = to as u16;
+        self.labels = n + 1;
+    }
+
+    // One start more.
+    pub fn add_start(&mut self, ty: u8)
+        requires { start_count self.old < 128 }
+        ensures { self.new ≡ with_start_of self.old ty }
+    {
+        let n = self.starts;
+        self.start_types[n] = u16::from(ty);
+        self.starts = n + 1;
+    }
+
+    // One rule more.
+    pub fn add_rule(&mut self, ty: u8, label: u8, from: usize, to: usize)
+        requires { (rule_count self.old < 128) × (from < 65536) × (to < 65536) }
+        ensures { self.new ≡ with_rule_at self.old ty label from to }
+    {
+        let n = self.rules;
+        self.rule_types[n] = u16::from(ty);
+        self.rule_labels[n] = u16::from(label);
+        self.contents_from[n] = from as u16;
+        self.contents_to[n] = to as u16;
+        self.rules = n + 1;
+    }
 }

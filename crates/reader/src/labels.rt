@@ -2,17 +2,16 @@
 ghost use Rattle.std.specs.Prelude.{List, ◌≡◌, ◌≤◌, length};
 ghost use Rattle.grammar.specs.Lists.{any_pass, place};
 ghost use Rattle.grammar.specs.Names.{Name, same_name};
-ghost use Rattle.grammar.specs.LimitSets.{limits_of, Within};
+ghost use Rattle.grammar.specs.LimitSets.{limits_of};
 ghost use Rattle.grammar.specs.Table.{Table};
 ghost use Rattle.grammar.specs.ReadTable.{read_label};
 ghost use Rattle.reader.specs.NamePlaces.{NamesAt, NamesStand};
 ghost use Rattle.reader.specs.TableIndex.{part, ValueAt, Indexes, AnswersFor, ReadsFor};
 
-use crate::index::{add_label, label_count, rule_count, start_count};
+use crate::index::TableIndex;
 use basis::limits::NAME;
 use basis::names::{is_name, same_name};
-use basis::numbers::wider;
-use grammar::{Reading, Refusal, SizeLimits};
+use grammar::{Refusal, SizeLimits};
 
 // The place of a name among names that stand in bytes; their number where it is not there. `places` begins as an index does: it has
 // where each name begins, and 128 numbers later where it ends.
@@ -21,26 +20,24 @@ pub fn name_place(name: &[u8], s: &[u8], places: &[u16], count: usize) -> usize
     ensures { (list : List Name) → NamesAt s.now places.now count list
         → result ≡ place same_name name.now list }
 {
-    let mut i: usize = 0;
-    while i < count {
-        let from = wider(places[i]);
-        let to = wider(places[128 + i]);
+    for i in 0..count {
+        let from = usize::from(places[i]);
+        let to = usize::from(places[128 + i]);
         if same_name(name, &s[from..to]) {
             return i;
         }
-        i += 1;
     }
     count
 }
 
 // An earlier label has this name.
-fn repeated_label(s: &[u8], from: usize, to: usize, index: &[u16; 899]) -> bool
+fn repeated_label(s: &[u8], from: usize, to: usize, index: &TableIndex) -> bool
     requires { ValueAt s.now from to index.now }
     ensures { (g : Table) → Indexes s.now index.now g
         → result ≡ any_pass (same_name (part s.now from to)) g.labels }
 {
-    let labels = label_count(index);
-    name_place(&s[from..to], s, index, labels) < labels
+    let labels = index.label_count();
+    name_place(&s[from..to], s, &index.names, labels) < labels
 }
 
 // Why a label is turned back, if it is.
@@ -50,35 +47,35 @@ fn label_answer(
     s: &[u8],
     from: usize,
     to: usize,
-    index: &[u16; 899],
-) -> Reading
+    index: &TableIndex,
+) -> Result<(), Refusal>
     requires in_bounds { 256 ≤ length classes.now }
     requires value_at { ValueAt s.now from to index.now }
     ensures { AnswersFor s.now index.now
         (λ g. read_label (limits_of limits) classes.now g (part s.now from to)) result }
 {
-    if start_count(index) != 0 {
-        return Reading::Refused(Refusal::BadField);
+    if index.start_count() != 0 {
+        return Err(Refusal::BadField);
     }
-    if rule_count(index) != 0 {
-        return Reading::Refused(Refusal::BadField);
+    if index.rule_count() != 0 {
+        return Err(Refusal::BadField);
     }
     if from == to {
-        return Reading::Refused(Refusal::BadField);
+        return Err(Refusal::BadField);
     }
     if NAME < to - from {
-        return Reading::Refused(Refusal::BadField);
+        return Err(Refusal::BadField);
     }
     if is_name(classes, &s[from..to]) {
         if repeated_label(s, from, to, index) {
-            return Reading::Refused(Refusal::Repeated);
+            return Err(Refusal::Repeated);
         }
-        if limits.rules <= label_count(index) {
-            return Reading::Refused(Refusal::TooMany);
+        if limits.rules <= index.label_count() {
+            return Err(Refusal::TooMany);
         }
-        Reading::Readable
+        Ok(())
     } else {
-        Reading::Refused(Refusal::BadName)
+        Err(Refusal::BadName)
     }
 }
 
@@ -89,19 +86,14 @@ pub fn after_label(
     s: &[u8],
     from: usize,
     to: usize,
-    index: &mut [u16; 899],
-) -> Reading
+    index: &mut TableIndex,
+) -> Result<(), Refusal>
     requires in_bounds { 256 ≤ length classes.now }
-    requires within { Within limits }
     requires value_at { ValueAt s.now from to index.old }
     ensures { ReadsFor s.now index.old
         (λ g. read_label (limits_of limits) classes.now g (part s.now from to)) result index.new }
 {
-    match label_answer(limits, classes, s, from, to, index) {
-        Reading::Refused(r) => Reading::Refused(r),
-        Reading::Readable => {
-            add_label(index, from, to);
-            Reading::Readable
-        }
-    }
+    label_answer(limits, classes, s, from, to, index)?;
+    index.add_label(from, to);
+    Ok(())
 }

@@ -1,7 +1,7 @@
 // Table files: labels, then starts, then rules, then the end.
 ghost use Rattle.std.specs.Prelude.{◌≡◌, ◌≤◌, length, drop};
 ghost use Rattle.grammar.specs.Limits.{input_limit};
-ghost use Rattle.grammar.specs.LimitSets.{limits_of, Within};
+ghost use Rattle.grammar.specs.LimitSets.{limits_of};
 ghost use Rattle.grammar.specs.Table.{Table, empty_table};
 ghost use Rattle.grammar.specs.Answers.{reading};
 ghost use Rattle.grammar.specs.Fields.{fields_of};
@@ -10,13 +10,13 @@ ghost use Rattle.reader.specs.FieldAt.{TagBefore};
 ghost use Rattle.reader.specs.TableIndex.{part, Inside, ValueAt, Reads, ReadsFor, end_outcome};
 
 use crate::fields::{FieldAt, field_at};
-use crate::index::clear_index;
+use crate::index::TableIndex;
 use crate::labels::after_label;
 use crate::rules::after_rule;
 use crate::starts::after_start;
 use crate::tags::{LABEL_TAG, RULE_TAG, START_TAG, TABLE_END_TAG, TEXT_RULE_TAG};
 use basis::limits::INPUT;
-use grammar::{Reading, Refusal, SizeLimits};
+use grammar::{Refusal, SizeLimits};
 
 // Reads a field that is not the end into the index.
 fn after_field(
@@ -26,10 +26,9 @@ fn after_field(
     tag: u8,
     from: usize,
     to: usize,
-    index: &mut [u16; 899],
-) -> Reading
+    index: &mut TableIndex,
+) -> Result<(), Refusal>
     requires in_bounds { 256 ≤ length classes.now }
-    requires within { Within limits }
     requires tag_before { TagBefore s.now from tag }
     requires value_at { ValueAt s.now from to index.old }
     ensures { ReadsFor s.now index.old
@@ -48,65 +47,71 @@ fn after_field(
     if tag == TEXT_RULE_TAG {
         return after_rule(limits, s, from, to, index);
     }
-    Reading::Refused(Refusal::BadField)
+    Err(Refusal::BadField)
 }
 
 // What an end field says.
-fn end_answer(s: &[u8], from: usize, to: usize) -> Reading
+fn end_answer(s: &[u8], from: usize, to: usize) -> Result<(), Refusal>
     requires { Inside s.now from to }
     ensures { (g : Table) → result ≡ reading (end_outcome g (part s.now from to) (fields_of (drop to s.now))) }
 {
     let size = s.len();
     if from != to {
-        return Reading::Refused(Refusal::BadField);
+        return Err(Refusal::BadField);
     }
     if to != size {
-        return Reading::Refused(Refusal::BytesAfterEnd);
+        return Err(Refusal::BytesAfterEnd);
     }
-    Reading::Readable
+    Ok(())
 }
 
 // Reads the fields of a table into the index, front to back.
-fn read_fields(limits: SizeLimits, classes: &[u8], s: &[u8], index: &mut [u16; 899]) -> Reading
+fn read_fields(
+    limits: SizeLimits,
+    classes: &[u8],
+    s: &[u8],
+    index: &mut TableIndex,
+) -> Result<(), Refusal>
     requires in_bounds { 256 ≤ length classes.now }
-    requires within { Within limits }
     requires s_len_bound { length s.now ≤ input_limit }
     ensures { Reads s.now
         (read_table_fields (limits_of limits) classes.now empty_table (fields_of s.now)) result index.new }
 {
-    clear_index(index);
+    index.clear_index();
     let mut at: usize = 0;
+    // Fields are of uneven lengths: each says where the next begins.
     loop {
         match field_at(s, at) {
             FieldAt::Found(tag, from, to) => {
                 if tag == TABLE_END_TAG {
                     return end_answer(s, from, to);
                 }
-                let answer = after_field(limits, classes, s, tag, from, to, index);
-                if let Reading::Refused(r) = answer {
-                    return Reading::Refused(r);
-                }
+                after_field(limits, classes, s, tag, from, to, index)?;
                 at = to;
             }
             FieldAt::NoBytes => {
-                return Reading::Refused(Refusal::FieldPastEnd);
+                return Err(Refusal::FieldPastEnd);
             }
             FieldAt::PastEnd => {
-                return Reading::Refused(Refusal::FieldPastEnd);
+                return Err(Refusal::FieldPastEnd);
             }
         }
     }
 }
 
 // Reads a table of labels, starts and rules into the index.
-pub fn read_table(limits: SizeLimits, classes: &[u8], s: &[u8], index: &mut [u16; 899]) -> Reading
+pub fn read_table(
+    limits: SizeLimits,
+    classes: &[u8],
+    s: &[u8],
+    index: &mut TableIndex,
+) -> Result<(), Refusal>
     requires in_bounds { 256 ≤ length classes.now }
-    requires within { Within limits }
     ensures { Reads s.now (read_table (limits_of limits) classes.now s.now) result
         index.new }
 {
     if INPUT < s.len() {
-        return Reading::Refused(Refusal::InputTooLong);
+        return Err(Refusal::InputTooLong);
     }
     read_fields(limits, classes, s, index)
 }

@@ -3,6 +3,7 @@
 --   starts_small   the start types of a table that was read
 --   start_set      the pairs in the lists of the start types are the starts
 --   seen-*         the loop that makes rounds
+use Rattle.reader.specs.declared.index.TableIndex.{TableIndex}
 use Prim.Native.Nat.{ℕ, ◌+◌, ◌<◌}
 use native.Mathlib.Omega.{arith}
 use mathlib.Core.Bool.{Bool, true, false, ◌||◌, false≢true}
@@ -54,7 +55,7 @@ list_part {from} {numbers} l k first end h a b =
     record { order = omega arith; inside = omega arith; below = λ i s. l.below i }
 
 -- the start types
-module _ {s index : List ℕ} {g : Table} (x : Held large s index g) where
+module _ {s : List ℕ} {index : TableIndex} {g : Table} (x : Held large s index g) where
   pub starts_small : StartsSmall index
   starts_small = record { few = x.indexes.few_starts; small = start_small x.indexes x.within }
 
@@ -81,7 +82,7 @@ module _ {s index : List ℕ} {g : Table} (x : Held large s index g) where
         (subst (λ (t : ℕ). Memᴰ p (f t)) (sym (x.indexes.start a.0 k a.1)) q)
 
 -- the pairs in the lists of both tables' start types
-module _ {old add index addition : List ℕ} {g h : Table} (x : Held large old index g)
+module _ {old add : List ℕ} {index addition : TableIndex} {g h : Table} (x : Held large old index g)
     (y : Held large add addition h) {lists : TypeLists} (l : ListsOf (fruitful_of (unite large g h)) lists) where
   abbrev of : ℕ → List ℕ
   of = fruitful_of (unite large g h)

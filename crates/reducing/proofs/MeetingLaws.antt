@@ -14,6 +14,7 @@ use mathlib.Core.Path.{◌≡◌, refl, sym, ◌∙◌, ap, ap₂, subst, fun_ex
 use lib.ListN.{length, get_or, take, drop}
 use lib.Dec.{eqb, leb}
 use borrow.Author.Tests.{eqb-true, eq-eqb, ltb-true}
+use Rattle.std.proofs.lemmas.List.{take_more}
 use Rattle.grammar.specs.Lists.{keep, distinct, joined_of, is_in, numbers_below}
 use Rattle.grammar.specs.Limits.{Limits, large}
 use Rattle.grammar.specs.ReadContent.{is_proper, are_proper}
@@ -59,7 +60,7 @@ use Rattle.union.specs.Rounds.{content_of_rule}
 use Rattle.union.specs.PairNumbers.{rule_numbered, fruitful_of, contents_of_pair, contents_in, met_in, no_rule}
 use Rattle.union.proofs.ViewLaws.{content_is, seen, source_so}
 use Rattle.union.proofs.MetLaws.{finds_adds, finds_once}
-use Rattle.union.proofs.OnceLaws.{part_more, adds_none, adds_join, adds_same}
+use Rattle.union.proofs.OnceLaws.{adds_none, adds_join, adds_same}
 use Rattle.reducing.specs.declared.meeting.Met.{Met}
 use Rattle.reducing.specs.PairsListed.{PartBelow}
 use Rattle.reducing.specs.PairsMet.{MetHeld, ContentMet, met_in_rule, met_in_pair, Meets}
@@ -301,16 +302,13 @@ met_part found h =
     }
 
 -- the next number of a part put into a set of words
-pub part_next : (words more numbers : List ℕ) (first i k : ℕ) (base : ℕ → Bool) → more ≡ put_at words 0 k → k ≡ get_or numbers i 0
-    → k < 256
+pub part_next : (words more part : List ℕ) (i k : ℕ) (base : ℕ → Bool) → more ≡ put_at words 0 k → k ≡ get_or part i 0 → k < 256
     → length words ≡ 8
-    → first ≤ i
-    → i < length numbers
-    → member words 0 ≡ in_either (λ p. is_in p (take (i - first) (drop first numbers))) base
-    → (member more 0 ≡ in_either (λ p. is_in p (take (i + 1 - first) (drop first numbers))) base) × (length more ≡ 8)
-part_next words more numbers first i k base m e small l low high q =
-    let part = take (i - first) (drop first numbers) in
-    let r = put_next words more part k base m small l q in
-    let t : part ++ (k ∷ []) ≡ take (i + 1 - first) (drop first numbers) =
-    ap (λ (n : ℕ). part ++ (n ∷ [])) e ∙ sym (part_more numbers first i low high) in
+    → i < length part
+    → member words 0 ≡ in_either (λ p. is_in p (take i part)) base
+    → (member more 0 ≡ in_either (λ p. is_in p (take (i + 1) part)) base) × (length more ≡ 8)
+part_next words more part i k base m e small l high q =
+    let r = put_next words more (take i part) k base m small l q in
+    let t : take i part ++ (k ∷ []) ≡ take (i + 1) part =
+    ap (λ (n : ℕ). take i part ++ (n ∷ [])) e ∙ sym (take_more part i 0 high) in
     (r.0 ∙ ap (λ (xs : List ℕ). in_either (λ p. is_in p xs) base) t, r.1)

@@ -1,4 +1,5 @@
 -- The known pairs of a union by type, read off its view.
+use Rattle.reader.specs.declared.index.TableIndex.{TableIndex}
 use Rattle.std.specs.Prelude.{ℕ, ◌+◌, ◌≤◌, ◌<◌, Bool, ◌&&◌, ◌≡◌, length, get_or, take, eqb}
 use mathlib.Core.List.{List, ◌++◌, Memᴰ}
 use Rattle.grammar.specs.Lists.{keep, joined_of, numbers_below}
@@ -54,6 +55,6 @@ pub record BothListed (r : TypeLists) : Type 0 where
   pub added : Listed 128 256 r.addition.from r.addition.numbers
 
 -- the start types of a table that was read
-pub record StartsSmall (index : List ℕ) : Type 0 where
+pub record StartsSmall (index : TableIndex) : Type 0 where
   pub few : start_count index ≤ 128
   pub small : (i : ℕ) → i < start_count index → start_type index i < 128

@@ -15,10 +15,8 @@ ghost use Rattle.union.specs.Walks.{list_of_type, Listed};
 ghost use Rattle.reducing.specs.PairsListed.{BothListed, StartsSmall};
 
 use crate::meeting::{met_set, with_part};
-use basis::numbers::wider;
-use reader::index::{start_count, start_type};
-use sets::eight::Set8;
-use sets::words::{load_eight, store_eight};
+use reader::index::TableIndex;
+use sets::set::Set8;
 use union::lists::{Lists, TypeLists};
 use union::places::{LEFT, STARTS};
 use union::united::United;
@@ -29,13 +27,16 @@ fn with_list(set: Set8, lists: Lists, k: usize) -> Set8
     ensures { (member result.words 0 ≡ in_either (λ p. is_in p (list_of_type lists.from lists.numbers k)) (member set.words 0))
         × (length result.words ≡ 8) }
 {
-    let begins = lists.from;
-    let numbers = lists.numbers;
-    with_part(set, &numbers, wider(begins[k]), wider(begins[k + 1]))
+    with_part(
+        set,
+        &lists.numbers,
+        usize::from(lists.from[k]),
+        usize::from(lists.from[k + 1]),
+    )
 }
 
 // A set with the numbers of the lists of a table's start types.
-fn with_starts(set: Set8, lists: Lists, index: &[u16; 899]) -> Set8
+fn with_starts(set: Set8, lists: Lists, index: &TableIndex) -> Set8
     requires { (length set.words ≡ 8) × (Listed 128 256 lists.from lists.numbers) × (StartsSmall index.now) }
     ensures { (member result.words 0 ≡ in_either (λ p. is_in p
         (joined_of (λ i. list_of_type lists.from lists.numbers (start_type index.now i))
@@ -43,29 +44,22 @@ fn with_starts(set: Set8, lists: Lists, index: &[u16; 899]) -> Set8
         (member set.words 0))
         × (length result.words ≡ 8) }
 {
-    let starts = start_count(index);
     let mut more = set;
-    let mut i: usize = 0;
-    while i < starts {
-        let larger = with_list(more, lists, start_type(index, i));
-        more = larger;
-        i += 1;
+    for i in 0..index.start_count() {
+        more = with_list(more, lists, index.start_type(i));
     }
     more
 }
 
 // Finds the fruitful pairs of the start types.
-pub fn start_pairs(lists: TypeLists, index: &[u16; 899], addition: &[u16; 899], words: &mut [u32])
+pub fn start_pairs(lists: TypeLists, index: &TableIndex, addition: &TableIndex, words: &mut [u32])
     requires { (BothListed lists) × (StartsSmall index.now) × (StartsSmall addition.now) × (12288 ≤ length words.old) }
     ensures { (old add : List ℕ) (g h : Table) → Held large old index.now g
         → Held large add addition.now h
         → ListsOf (fruitful_of (unite large g h)) lists → set_of_eight_at words.new starts_at ≡ is_start (unite large g h) }
 {
-    let none = Set8::empty();
-    let olds = lists.old;
-    let first = with_starts(none, olds, index);
-    let adds = lists.addition;
-    store_eight(words, STARTS, with_starts(first, adds, addition));
+    let first = with_starts(Set8::empty(), lists.old, index);
+    with_starts(first, lists.addition, addition).store(words, STARTS);
 }
 
 // Finds the pairs that reducing leaves.
@@ -75,14 +69,14 @@ pub fn pairs_left(old: &[u8], add: &[u8], v: United, lists: TypeLists, words: &m
         → set_of_eight_at words.old starts_at ≡ is_start u → set_of_eight_at words.new left_at ≡ is_left u)
         × KeptAround left_at 8 words.old words.new }
 {
-    let mut seen = load_eight(words, STARTS);
+    let mut seen = Set8::load(words, STARTS);
+    // The rounds follow from each other, so no count stands at the outset: the loop yields the set of the last by `break`.
     let left = loop {
-        let met = met_set(old, add, v, lists, seen);
-        let next = seen.union(met);
+        let next = seen.union(met_set(old, add, v, lists, seen));
         if seen.equal(next) {
             break seen;
         }
         seen = next;
     };
-    store_eight(words, LEFT, left);
+    left.store(words, LEFT);
 }

@@ -11,9 +11,7 @@ ghost use Rattle.union.specs.TypeLists.{ListsOf};
 ghost use Rattle.reducing.specs.PairsListed.{BothListed, PartBelow};
 ghost use Rattle.reducing.specs.PairsMet.{ContentMet, met_in_rule, met_in_pair, MeetAsks, Meets, MetHeld};
 
-use basis::numbers::{wide, wider};
-use sets::eight::Set8;
-use sets::four::Set4;
+use sets::set::{Set4, Set8};
 use union::lists::{Lists, TypeLists};
 use union::met::met;
 use union::united::United;
@@ -30,10 +28,16 @@ fn met_in_content(content: &[u8], lists: Lists, list: &mut [u8], count: usize) -
     requires { MetAsks content.now 0 lists.from lists.numbers list.old count }
     ensures { ContentMet content.now lists (take count list.old) list.new result }
 {
-    let begins = lists.from;
-    let numbers = lists.numbers;
-    let found = met(content, 0, &begins, &numbers, list, count, Set4::empty());
-    found.count
+    met(
+        content,
+        0,
+        &lists.from,
+        &lists.numbers,
+        list,
+        count,
+        Set4::empty(),
+    )
+    .count
 }
 
 // Adds the pairs met in the content of a rule.
@@ -50,37 +54,12 @@ fn met_in_rule(
     ensures { Meets old.now add.now v lists (λ u. met_in_rule u i) (take count list.old)
         list.new result }
 {
-    let content_from = v.content_from;
-    let content_to = v.content_to;
-    let from = wider(content_from[i]);
-    let to = wider(content_to[i]);
+    let from = usize::from(v.content_from[i]);
+    let to = usize::from(v.content_to[i]);
     if i < v.old_rules {
-        let olds = lists.old;
-        return met_in_content(&old[from..to], olds, list, count);
+        return met_in_content(&old[from..to], lists.old, list, count);
     }
-    let adds = lists.addition;
-    met_in_content(&add[from..to], adds, list, count)
-}
-
-// The same if the rule is asked for.
-fn met_in_rule_if(
-    on: bool,
-    old: &[u8],
-    add: &[u8],
-    v: United,
-    lists: TypeLists,
-    i: usize,
-    list: &mut [u8],
-    count: usize,
-) -> usize
-    requires { (MeetAsks old.now add.now v lists list.old count) × (i < v.rules) }
-    ensures { Meets old.now add.now v lists (λ u. only_if on (met_in_rule u i))
-        (take count list.old) list.new result }
-{
-    if on {
-        return met_in_rule(old, add, v, lists, i, list, count);
-    }
-    count
+    met_in_content(&add[from..to], lists.addition, list, count)
 }
 
 // Adds the pairs met in the contents of a pair.
@@ -97,38 +76,13 @@ fn met_in_pair(
     ensures { Meets old.now add.now v lists (λ u. met_in_pair u p) (take count list.old)
         list.new result }
 {
-    let firsts = v.firsts;
-    let rules = v.rules;
     let mut more = count;
-    let mut i: usize = 0;
-    while i < rules {
-        let first = wide(firsts[i]);
-        let longer = met_in_rule_if(first == p, old, add, v, lists, i, list, more);
-        more = longer;
-        i += 1;
+    for i in 0..v.rules {
+        if usize::from(v.firsts[i]) == p {
+            more = met_in_rule(old, add, v, lists, i, list, more);
+        }
     }
     more
-}
-
-// The same, if the pair is in the set.
-fn met_in_member(
-    old: &[u8],
-    add: &[u8],
-    v: United,
-    lists: TypeLists,
-    set: Set8,
-    p: usize,
-    list: &mut [u8],
-    count: usize,
-) -> usize
-    requires { (MeetAsks old.now add.now v lists list.old count) × (p < 256) }
-    ensures { Meets old.now add.now v lists (λ u. only_if (member set.words 0 p) (met_in_pair u p))
-        (take count list.old) list.new result }
-{
-    if set.has(p) {
-        return met_in_pair(old, add, v, lists, p, list, count);
-    }
-    count
 }
 
 // The pairs met in the contents of a set of pairs.
@@ -137,14 +91,12 @@ pub fn met_in_set(old: &[u8], add: &[u8], v: United, lists: TypeLists, set: Set8
     ensures { ((u : Table) → Views old.now add.now v u → ListsOf (fruitful_of u) lists
         → take result.count result.numbers ≡ distinct eqb (met_in u (member set.words 0))) × (MetHeld result) }
 {
-    let rules = v.rules;
     let mut numbers = [0u8; 256];
     let mut count: usize = 0;
-    let mut p: usize = 0;
-    while p < rules {
-        let more = met_in_member(old, add, v, lists, set, p, &mut numbers, count);
-        count = more;
-        p += 1;
+    for p in 0..v.rules {
+        if set.has(p) {
+            count = met_in_pair(old, add, v, lists, p, &mut numbers, count);
+        }
     }
     Met { numbers, count }
 }
@@ -156,12 +108,10 @@ pub fn with_part(set: Set8, numbers: &[u8], first: usize, end: usize) -> Set8
         ≡ in_either (λ p. is_in p (take (end - first) (drop first numbers.now))) (member set.words 0))
         × (length result.words ≡ 8) }
 {
+    let part = &numbers[first..end];
     let mut more = set;
-    let mut i = first;
-    while i < end {
-        let larger = more.with(wide(numbers[i]));
-        more = larger;
-        i += 1;
+    for number in part {
+        more = more.with(usize::from(*number));
     }
     more
 }
@@ -171,9 +121,7 @@ pub fn set_of(found: Met) -> Set8
     requires { MetHeld found }
     ensures { (member result.words 0 ≡ (λ p. is_in p (take found.count found.numbers))) × (length result.words ≡ 8) }
 {
-    let numbers = found.numbers;
-    let none = Set8::empty();
-    with_part(none, &numbers, 0, found.count)
+    with_part(Set8::empty(), &found.numbers, 0, found.count)
 }
 
 // The pairs met in the contents of a set of pairs, as a set.
@@ -182,6 +130,5 @@ pub fn met_set(old: &[u8], add: &[u8], v: United, lists: TypeLists, set: Set8) -
     ensures { ((u : Table) → Views old.now add.now v u → ListsOf (fruitful_of u) lists
         → member result.words 0 ≡ (λ p. is_in p (met_in u (member set.words 0)))) × (length result.words ≡ 8) }
 {
-    let found = met_in_set(old, add, v, lists, set);
-    set_of(found)
+    set_of(met_in_set(old, add, v, lists, set))
 }

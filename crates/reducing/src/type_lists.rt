@@ -12,9 +12,7 @@ ghost use Rattle.union.specs.PairNumbers.{fruitful_of};
 ghost use Rattle.union.specs.TypeLists.{ListsOf};
 ghost use Rattle.reducing.specs.PairsListed.{is_pair, pairs_in, ListsFilled, Appends, Earlier, ListsEach};
 
-use basis::numbers::wide;
-use sets::eight::Set8;
-use sets::words::load_eight;
+use sets::set::Set8;
 use union::fruitful::put_if;
 use union::lists::{Lists, TypeLists};
 use union::places::KNOWN;
@@ -25,15 +23,7 @@ fn is_pair(v: United, known: Set8, ty: usize, p: usize) -> bool
     requires { p < 256 }
     ensures { result ≡ is_pair v (member known.words 0) ty p }
 {
-    let types = v.types;
-    let firsts = v.firsts;
-    if wide(types[p]) != ty {
-        return false;
-    }
-    if wide(firsts[p]) != p {
-        return false;
-    }
-    known.has(p)
+    usize::from(v.types[p]) == ty && usize::from(v.firsts[p]) == p && known.has(p)
 }
 
 // Lays a pair's number down after the others, if it is a known pair of the type.
@@ -62,13 +52,9 @@ fn append_pairs(v: United, known: Set8, ty: usize, numbers: &mut [u8], count: us
     requires { (v.rules ≤ 256) × (ListsFilled numbers.old count) × (Earlier v ty (take count numbers.old)) }
     ensures { Appends (take count numbers.old) (pairs_in v (member known.words 0) ty) numbers.new result }
 {
-    let rules = v.rules;
     let mut more = count;
-    let mut p: usize = 0;
-    while p < rules {
-        let longer = append_pair(v, known, ty, p, numbers, more);
-        more = longer;
-        p += 1;
+    for p in 0..v.rules {
+        more = append_pair(v, known, ty, p, numbers, more);
     }
     more
 }
@@ -81,12 +67,9 @@ fn lists_from(v: United, known: Set8, base: usize) -> Lists
     let mut from = [0u16; 129];
     let mut numbers = [0u8; 256];
     let mut count: usize = 0;
-    let mut k: usize = 0;
-    while k < 128 {
-        let more = append_pairs(v, known, base + k, &mut numbers, count);
-        from[k + 1] = more as u16;
-        count = more;
-        k += 1;
+    for k in 0..128 {
+        count = append_pairs(v, known, base + k, &mut numbers, count);
+        from[k + 1] = count as u16;
     }
     Lists { from, numbers }
 }
@@ -97,7 +80,7 @@ pub fn fruitful_lists(v: United, words: &[u32]) -> TypeLists
     ensures { (old add : List ℕ) (u : Table) → Views old add v u
         → set_of_eight_at words.now known_at ≡ (λ p. is_in p (fruitful (normalise u))) → ListsOf (fruitful_of u) result }
 {
-    let known = load_eight(words, KNOWN);
+    let known = Set8::load(words, KNOWN);
     let old = lists_from(v, known, 0);
     let addition = lists_from(v, known, 128);
     TypeLists { old, addition }
@@ -109,13 +92,9 @@ fn is_listed(lists: TypeLists, k: usize) -> bool
     ensures { (of : ℕ → List ℕ) → ListsOf of lists → result ≡ some_left of k }
 {
     if k < 128 {
-        let old = lists.old;
-        let from = old.from;
-        return from[k] < from[k + 1];
+        return lists.old.from[k] < lists.old.from[k + 1];
     }
-    let addition = lists.addition;
-    let from = addition.from;
-    from[k - 128] < from[k - 127]
+    lists.addition.from[k - 128] < lists.addition.from[k - 127]
 }
 
 // The types of the union that have a list that is not empty.
@@ -124,11 +103,8 @@ pub fn types_listed(lists: TypeLists) -> Set8
         × (length result.words ≡ 8) }
 {
     let mut set = Set8::empty();
-    let mut k: usize = 0;
-    while k < 256 {
-        let more = put_if(is_listed(lists, k), set, k);
-        set = more;
-        k += 1;
+    for k in 0..256 {
+        set = put_if(is_listed(lists, k), set, k);
     }
     set
 }

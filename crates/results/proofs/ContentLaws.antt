@@ -8,7 +8,7 @@ use Rattle.grammar.specs.Normalise.{pairs_of, normalise}
 use Rattle.grammar.specs.Reduce.{fruitful}
 use Rattle.theory.specs.Alternatives.{some_left, results_of}
 use Rattle.sets.specs.Sets.{member}
-use Rattle.sets.specs.declared.eight.Set8.{Set8}
+use Rattle.sets.specs.declared.set.Set.{Set}
 use Rattle.union.specs.declared.lists.TypeLists.{TypeLists}
 use Rattle.union.specs.TypeLists.{ListsOf}
 use Rattle.contents.specs.Joining.{Joining}
@@ -27,7 +27,7 @@ module _ {old add : List ℕ} {plan : Plan} {words : List ℕ} (q : RulesFrom ol
   results_in within =
       results_of (pairs_of q.in_words.table) (fruitful (normalise q.in_words.table)) (set_number q.in_words.table q.in_words.sets within)
 
-  abbrev pub merged : (within : ℕ → Bool) (types : Set8) (results : TypeLists) → ListsOf (results_in within) results → length types.words ≡ 8
+  abbrev pub merged : (within : ℕ → Bool) (types : Set 8) (results : TypeLists) → ListsOf (results_in within) results → length types.words ≡ 8
       → ((of : ℕ → List ℕ) → ListsOf of results → (k : ℕ) → k < 256 → member types.words 0 k ≡ some_left of k)
       → Joining old add plan.union (record { types = types; lists = results })
   merged within types results x l t =

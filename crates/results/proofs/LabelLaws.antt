@@ -12,10 +12,12 @@ use mathlib.Core.Path.{◌≡◌, refl, sym, ◌∙◌, ap, subst, fun_ext}
 use lib.Dec.{eqb}
 use lib.ListN.{length, length-append, get_or}
 use borrow.Author.Tests.{eqb-true, eq-eqb}
+use Rattle.std.specs.Prelude.{Ok, Result}
 use Rattle.grammar.specs.Limits.{input_limit}
 use Rattle.grammar.specs.Lists.{any_pass, keep, place, numbers_below}
 use Rattle.grammar.specs.Table.{Table}
 use Rattle.grammar.specs.SingleTypeForm.{TypeSet}
+use Rattle.grammar.specs.declared.TooLarge.{TooLarge}
 use Rattle.theory.specs.Alternatives.{only_if}
 use Rattle.theory.proofs.Lists.BoolLaws.{false_of, same_test}
 use Rattle.theory.proofs.Lists.PlaceLaws.{place_yes, place_past}
@@ -25,8 +27,6 @@ use Rattle.sets.specs.Sets.{nothing}
 use Rattle.union.specs.Rounds.{puts}
 use Rattle.union.proofs.PutsLaws.{puts_was, puts_has}
 use Rattle.union.proofs.UnitedLabelsLaws.{place_back}
-use Rattle.writer.specs.declared.writing.Drafted.{Drafted}
-use Rattle.writer.specs.declared.writing.Drafted.TheVariants.{Length}
 use Rattle.writer.specs.Writing.{Puts}
 use Rattle.writer.proofs.PutLaws.{put_none}
 use Rattle.reducing.proofs.NumberLaws.{keep_next, keep_start}
@@ -95,10 +95,10 @@ module _ (u : Table) (sets : List TypeSet) where
           ∙ puts_has (λ j. true) label_at nothing (length sets) i (at_below sets i at) refl
 
 module _ (before : List ℕ) (at : ℕ) (bytes : List ℕ) (on : Bool) where
-  pub put_on : (after : List ℕ) (r : Drafted) → on ≡ true → Puts before at bytes after r → Puts before at (only_if on bytes) after r
+  pub put_on : (after : List ℕ) (r : Result ℕ TooLarge) → on ≡ true → Puts before at bytes after r → Puts before at (only_if on bytes) after r
   unfolding only_if
   put_on after r e p = subst (λ (b : Bool). Puts before at (only_if b bytes) after r) (sym e) p
 
-  pub put_off : on ≡ false → at ≤ input_limit → at ≤ length before → Puts before at (only_if on bytes) before (Length at)
+  pub put_off : on ≡ false → at ≤ input_limit → at ≤ length before → Puts before at (only_if on bytes) before (Ok at)
   unfolding only_if
-  put_off e h k = subst (λ (b : Bool). Puts before at (only_if b bytes) before (Length at)) (sym e) (put_none before at k, h)
+  put_off e h k = subst (λ (b : Bool). Puts before at (only_if b bytes) before (Ok at)) (sym e) (put_none before at k, h)

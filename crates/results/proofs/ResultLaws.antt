@@ -4,6 +4,7 @@
 --   scratch_long, scratch_room, made_stored, made_over : where the content is made, and whether
 --   table_bytes_lem        : labels, starts, rules and the end are the bytes of the table
 --   union_names, union_same, union_count, union_few : the labels of a union of two tables
+use Rattle.reader.specs.declared.index.TableIndex.{TableIndex}
 use Prim.Native.Nat.{ℕ, suc, ◌+◌, ◌-◌, ◌≤◌, ◌<◌}
 use native.Mathlib.Omega.{arith}
 use mathlib.Core.Bool.{Bool, true}
@@ -11,6 +12,7 @@ use mathlib.Core.List.{List, [], ◌∷◌, ◌++◌, append_assoc, map}
 use mathlib.Core.Path.{◌≡◌, refl, sym, ◌∙◌, ap, ap₂, subst}
 use lib.ListN.{length, length-append, get_or, set, take, get_or-append}
 use lib.Seq.{take-append-le, get_or-append-add}
+use Rattle.std.specs.Prelude.{Err, Ok, Result}
 use Rattle.grammar.specs.Lists.{keep, joined_of, numbers_below}
 use Rattle.grammar.specs.Limits.{Limits, large}
 use Rattle.grammar.specs.Names.{Name}
@@ -22,6 +24,7 @@ use Rattle.grammar.specs.Unite.{unite}
 use Rattle.grammar.specs.WriteTable.{rule_bytes, table_bytes, rule_field}
 use Rattle.grammar.specs.Size.{content_too_large}
 use Rattle.grammar.specs.SingleTypeForm.{TypeSet}
+use Rattle.grammar.specs.declared.TooLarge.{TooLarge}
 use Rattle.theory.specs.Alternatives.{only_if}
 use Rattle.theory.proofs.Lists.ListLaws.{at_else}
 use Rattle.theory.proofs.Emission.EmittedContent.{joined_map}
@@ -33,8 +36,6 @@ use Rattle.union.specs.UnitedLabels.{new_names}
 use Rattle.reader.specs.Held.{Held}
 use Rattle.reader.proofs.LabelSearch.{index_names}
 use Rattle.union.specs.View.{UnionSeen}
-use Rattle.contents.specs.declared.completing.ContentMade.{ContentMade}
-use Rattle.contents.specs.declared.completing.ContentMade.TheVariants.{TooLarge, Upto}
 use Rattle.contents.specs.Completing.{Stored, Made}
 use Rattle.reducing.proofs.NumberLaws.{joined_only}
 use Rattle.writer.specs.Tables.{rules_bytes}
@@ -42,7 +43,7 @@ use Rattle.forms.specs.SetForms.{labels_of, table_by_sets, pairs_within}
 use Rattle.results.specs.Results.{result_rule, is_used, LabelsIn, labels_bytes, starts_bytes, body_bytes}
 
 -- names of labels
-module _ {old add olds : List ℕ} {news : Names} (q : LabelsIn old add olds news) (l count from to : ℕ) (counted : count ≡ label_count olds) where
+module _ {old add : List ℕ} {olds : TableIndex} {news : Names} (q : LabelsIn old add olds news) (l count from to : ℕ) (counted : count ≡ label_count olds) where
   pub name_old : from ≡ label_from olds l → to ≡ label_to olds l → l < count
       → Inside old from to × (part old from to ≡ get_or (q.first ++ q.second) l [])
   name_old a b h =
@@ -76,7 +77,7 @@ module _ {old add olds : List ℕ} {news : Names} (q : LabelsIn old add olds new
       )
 
 -- the fields of the labels that are on
-module _ {old add olds : List ℕ} {news : Names} (q : LabelsIn old add olds news) (on : ℕ → Bool) where
+module _ {old add : List ℕ} {olds : TableIndex} {news : Names} (q : LabelsIn old add olds news) (on : ℕ → Bool) where
   abbrev pub name_field : ℕ → List ℕ
   name_field l = only_if (on l) (field_bytes 0x10 (get_or (q.first ++ q.second) l []))
 
@@ -127,7 +128,7 @@ table_bytes_lem u sets kind count names on starts e n o =
     ∙ ap (λ (x : List ℕ). joined_of (field_bytes 0x10) (map (λ l. get_or u.labels l []) (labels_of u sets)) ++ s ++ x ++ end) last
 
 -- the labels of the union of two tables
-module _ {lim : Limits} {old add index : List ℕ} {g h : Table} {r : Union} (x : UnionSeen old add g h r)
+module _ {lim : Limits} {old add : List ℕ} {index : TableIndex} {g h : Table} {r : Union} (x : UnionSeen old add g h r)
     (held : Held lim old index g) where
   abbrev pub union_names : LabelsIn old add index r.new_names
   union_names =
@@ -177,10 +178,10 @@ module _ (scratch made rest : List ℕ) (k : ℕ) where
       go (x ∷ y ∷ more) h = let a = length-append made rest in omega arith
 
 -- what making a content said
-pub made_stored : (draft : List ℕ) (c : Content) (r : ContentMade) {end : ℕ} → Made draft c r → r ≡ Upto end → Stored draft c end
+pub made_stored : (draft : List ℕ) (c : Content) (r : Result ℕ TooLarge) {end : ℕ} → Made draft c r → r ≡ Ok end → Stored draft c end
 unfolding Made
-made_stored draft c r m e = subst (λ (x : ContentMade). Made draft c x) e m
+made_stored draft c r m e = subst (λ (x : Result ℕ TooLarge). Made draft c x) e m
 
-pub made_over : (draft : List ℕ) (c : Content) (r : ContentMade) → Made draft c r → r ≡ TooLarge → content_too_large large c ≡ true
+pub made_over : (draft : List ℕ) (c : Content) (r : Result ℕ TooLarge) → Made draft c r → r ≡ Err (record {}) → content_too_large large c ≡ true
 unfolding Made
-made_over draft c r m e = subst (λ (x : ContentMade). Made draft c x) e m
+made_over draft c r m e = subst (λ (x : Result ℕ TooLarge). Made draft c x) e m

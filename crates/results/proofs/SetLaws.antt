@@ -16,7 +16,6 @@ use Rattle.grammar.specs.Normalise.{pairs_of, normalise}
 use Rattle.grammar.specs.Reduce.{fruitful}
 use Rattle.grammar.specs.SingleTypeForm.{TypeSet}
 use Rattle.theory.specs.Alternatives.{alts, one_content, results_of}
-use Rattle.theory.specs.Conditions.{Labelled}
 use Rattle.theory.proofs.Lists.BoolLaws.{and_left, and_right, and_intro, same_test}
 use Rattle.theory.proofs.Lists.ListLaws.{any_of, at_mem, at_or_else, any_found, in_mem, numbers_below_lem, mem_in}
 use Rattle.sets.specs.Sets.{member, words_at, KeptAround}
@@ -24,9 +23,7 @@ use Rattle.sets.proofs.SetLaws.{length-words, eight_before}
 use Rattle.reader.proofs.TableFaults.{is_some}
 use Rattle.union.specs.declared.united.United.{United}
 use Rattle.union.specs.Places.{left_at, used_at}
-use Rattle.union.specs.View.{Views}
 use Rattle.union.specs.PairNumbers.{rule_numbered, contents_in, no_rule, is_text}
-use Rattle.union.proofs.ViewLaws.{seen}
 use Rattle.forms.specs.SetWords.{Ascending}
 use Rattle.forms.specs.SetForms.{set_label, labels_of, set_number, content_by_set, rule_by_set, pairs_within, text_by_set}
 use Rattle.forms.proofs.SetWordLaws.{sets_stay}

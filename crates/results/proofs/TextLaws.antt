@@ -1,17 +1,27 @@
 -- The pairs for text, as a program finds them from the view of a union:
 --   marking_rule   a rule for text whose content has alternatives over the types listed marks its pair, and plain_rule: no other does
 --   text_pairs     the pairs of the rules that mark them
-use Prim.Native.Nat.{ℕ, ◌+◌, ◌<◌}
+--   any_numbered     what `any` over the numbers below n answers
+use Prim.Native.Nat.{ℕ, zero, suc, ◌+◌, ◌<◌}
 use native.Mathlib.Omega.{arith}
-use mathlib.Core.Bool.{Bool, true, false, ◌&&◌, false≢true}
+use mathlib.Core.Bool.{Bool, true, false, ◌&&◌, ◌||◌, false≢true}
 use mathlib.Core.List.{List}
 use mathlib.Core.Logic.{⊎_elim}
 use mathlib.Core.Option.{some as just}
 use mathlib.Core.Path.{◌≡◌, refl, sym, ◌∙◌, ap, fun_ext}
+use denote.Param.Members.{Mut}
 use lib.Dec.{eqb, ltb}
 use lib.ListN.{get_elem?}
 use borrow.Author.Tests.{eqb-true, eq-eqb, ltb-true, ltb-false}
-use Rattle.grammar.specs.Lists.{any_pass}
+use Rattle.std.proofs.lemmas.Iterator.{YieldsList-from_range}
+use Rattle.std.proofs.lemmas.Iterator.Search.{any_from_yields_List}
+use Rattle.std.proofs.iter.Yields.{nat_range_steps}
+use Rattle.std.specs.declared.option.Option.{Option}
+use Rattle.std.specs.Fn.{Called}
+use Rattle.std.specs.Iterator.{YieldsThen}
+use Rattle.std.specs.List.{FoldsTo, list_any, range_with_len}
+use Rattle.std.specs.Option.{MatchOption}
+use Rattle.grammar.specs.Lists.{any_pass, numbers_from, numbers_below}
 use Rattle.grammar.specs.Limits.{large}
 use Rattle.grammar.specs.Table.{Rule, Table}
 use Rattle.grammar.specs.Unite.{shifted}
@@ -106,3 +116,19 @@ module _ {old add : List ℕ} {v : United} {u : Table} (x : Views old add v u) w
 
       of_pair : ℕ → Rule → Bool
       of_pair p r = eqb (pair_of u r) p && is_marking u r
+
+any_from : (test : ℕ → Bool) (from n : ℕ) → list_any test (range_with_len from n) ≡ any_pass test (numbers_from from n)
+unfolding any_pass numbers_from
+any_from test from zero = refl
+any_from test from (suc n) =
+    let next : from + 1 ≡ suc from = omega arith in
+    ap (λ (b : Bool). test from || b) (ap (λ (k : ℕ). list_any test (range_with_len k n)) next ∙ any_from test (suc from) n)
+
+pub any_numbered : (test : ℕ → Bool) {F : Type 0} {g : Mut F (ℕ × Unit {0}) Bool} {s : _} (n : ℕ) (u : _) (f : F) (r : Bool)
+    → (xs : List ℕ) × (o : Option ℕ) × (j : F) × YieldsThen nat_range_steps s xs o u × FoldsTo (λ p x q. Called g p (x, tt) false q) f xs j
+    × MatchOption o (r ≡ false) (λ x. (r ≡ true) × ((h : F) × Called g j (x, tt) true h))
+    → s ≡ record { start = 0; end = n } → ((x : ℕ) (b : Bool) (q : F) → Called g f (x, tt) b q → (q ≡ f) × (b ≡ test x))
+    → r ≡ any_pass test (numbers_below n)
+unfolding numbers_below
+any_numbered test n u f r ran from calls =
+    any_from_yields_List test u f r ran (YieldsList-from_range 0 n n from (omega arith)) calls ∙ any_from test 0 n

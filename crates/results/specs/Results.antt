@@ -1,5 +1,6 @@
 -- What the table of a result is written from: the union of two tables, its fruitful pairs by type, its pairs for text, the pairs left, and
 -- the sets of pairs that are the types of the result.
+use Rattle.reader.specs.declared.index.TableIndex.{TableIndex}
 use Rattle.std.specs.Prelude.{ℕ, ◌≤◌, ◌<◌, Bool, ◌≡◌, eqb, length, get_or}
 use mathlib.Core.List.{List, [], ◌∷◌, ◌++◌, Memᴰ}
 use Rattle.grammar.specs.Lists.{any_pass, keep, joined_of, numbers_below}
@@ -36,10 +37,10 @@ abbrev pub is_used : Table → List TypeSet → ℕ → Bool
 is_used u sets l = any_pass (λ s. eqb (set_label u s) l) sets
 
 -- the labels of a union stand in the bytes of its two tables: the old names, then the addition's new ones
-pub record LabelsIn (old add : List ℕ) (olds : List ℕ) (news : Names) : Type 0 where
+pub record LabelsIn (old add : List ℕ) (olds : TableIndex) (news : Names) : Type 0 where
   pub first : List Name
   pub second : List Name
-  pub old_names : NamesAt old olds (label_count olds) first
+  pub old_names : NamesAt old olds.names (label_count olds) first
   pub new_names : NamesHeld add news second
 
 -- sets of pairs of a union stand in the words
@@ -75,7 +76,7 @@ abbrev pub rule_from : {old add : List ℕ} {plan : Plan} {words : List ℕ} →
 rule_from {plan = plan} q = result_rule q.in_words.table q.in_words.sets (kind_of plan.kind)
 
 -- What a result is written from: its rules, and where the labels stand.
-pub record ResultFrom (old add : List ℕ) (plan : Plan) (olds : List ℕ) (news : Names) (words : List ℕ) : Type 0 where
+pub record ResultFrom (old add : List ℕ) (plan : Plan) (olds : TableIndex) (news : Names) (words : List ℕ) : Type 0 where
   pub rules : RulesFrom old add plan words
   pub names : LabelsIn old add olds news
   pub same : rules.in_words.table.labels ≡ names.first ++ names.second

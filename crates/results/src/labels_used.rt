@@ -11,16 +11,15 @@ ghost use Rattle.union.specs.Places.{used_at};
 ghost use Rattle.writer.specs.Writing.{Puts};
 ghost use Rattle.results.specs.Results.{is_used, LabelsIn, SetsIn, labels_bytes};
 
-use basis::numbers::wider;
 use forms::label_sets::set_label;
-use reader::index::{label_count, label_from, label_to};
+use grammar::TooLarge;
+use reader::index::TableIndex;
 use reader::tags::LABEL_TAG;
-use sets::eight::Set8;
-use sets::words::{load_eight, store_eight};
+use sets::set::Set8;
 use union::labels::Names;
 use union::places::USED;
 use union::united::United;
-use writer::writing::{Drafted, put_field};
+use writer::writing::put_field;
 
 // Finds the labels that the sets in the words have.
 pub fn labels_used(v: United, words: &mut [u32], count: usize)
@@ -30,25 +29,11 @@ pub fn labels_used(v: United, words: &mut [u32], count: usize)
         × KeptAround used_at 8 words.old words.new }
 {
     let mut used = Set8::empty();
-    let mut i: usize = 0;
-    while i < count {
-        let set = load_eight(words, 8 * i);
-        let more = used.with(set_label(v, set));
-        used = more;
-        i += 1;
+    for i in 0..count {
+        let set = Set8::load(words, 8 * i);
+        used = used.with(set_label(v, set));
     }
-    store_eight(words, USED, used);
-}
-
-// A number, with one more if asked.
-fn one_more(n: usize, on: bool) -> usize
-    requires { n < 256 }
-    ensures { ((on ≡ true) × (result ≡ n + 1)) ⊎ ((on ≡ false) × (result ≡ n)) }
-{
-    if on {
-        return n + 1;
-    }
-    n
+    used.store(words, USED);
 }
 
 // The place of a label among those used: how many of them come before it.
@@ -59,10 +44,10 @@ pub fn label_place(used: Set8, label: usize) -> usize
         × (result ≤ label) }
 {
     let mut place: usize = 0;
-    let mut l: usize = 0;
-    while l < label {
-        place = one_more(place, used.has(l));
-        l += 1;
+    for l in 0..label {
+        if used.has(l) {
+            place += 1;
+        }
     }
     place
 }
@@ -73,24 +58,24 @@ fn put_name(
     at: usize,
     old: &[u8],
     add: &[u8],
-    olds: &[u16; 899],
+    olds: &TableIndex,
     news: Names,
     label: usize,
-) -> Drafted
+) -> Result<usize, TooLarge>
     requires { (at ≤ input_limit) × (input_limit ≤ length draft.old) × (label < label_count olds.now + news.count)
         × LabelsIn old.now add.now olds.now news }
     ensures { (q : LabelsIn old.now add.now olds.now news)
         → Puts draft.old at (field_bytes label_tag (get_or (q.first ++ q.second) label [])) draft.new result }
 {
-    let count = label_count(olds);
+    let count = olds.label_count();
     if label < count {
-        let from = label_from(olds, label);
-        let to = label_to(olds, label);
+        let from = olds.label_from(label);
+        let to = olds.label_to(label);
         return put_field(draft, at, LABEL_TAG, &old[from..to]);
     }
     let l = label - count;
-    let from = wider(news.places[l]);
-    let to = wider(news.places[128 + l]);
+    let from = usize::from(news.places[l]);
+    let to = usize::from(news.places[128 + l]);
     put_field(draft, at, LABEL_TAG, &add[from..to])
 }
 
@@ -100,11 +85,11 @@ fn put_label(
     at: usize,
     old: &[u8],
     add: &[u8],
-    olds: &[u16; 899],
+    olds: &TableIndex,
     news: Names,
     label: usize,
     on: bool,
-) -> Drafted
+) -> Result<usize, TooLarge>
     requires { (at ≤ input_limit) × (input_limit ≤ length draft.old) × (label < label_count olds.now + news.count)
         × LabelsIn old.now add.now olds.now news }
     ensures { (q : LabelsIn old.now add.now olds.now news)
@@ -114,7 +99,7 @@ fn put_label(
     if on {
         return put_name(draft, at, old, add, olds, news, label);
     }
-    Drafted::Length(at)
+    Ok(at)
 }
 
 // Writes the labels that are used.
@@ -122,29 +107,20 @@ pub fn put_labels(
     draft: &mut [u8],
     old: &[u8],
     add: &[u8],
-    olds: &[u16; 899],
+    olds: &TableIndex,
     news: Names,
     words: &[u32],
-) -> Drafted
+) -> Result<usize, TooLarge>
     requires { (input_limit ≤ length draft.old) × (12288 ≤ length words.now) × LabelsIn old.now add.now olds.now news }
     ensures { (q : LabelsIn old.now add.now olds.now news)
         → Puts draft.old 0 (labels_bytes (q.first ++ q.second) (set_of_eight_at words.now used_at))
         draft.new result }
 {
-    let used = load_eight(words, USED);
-    let labels = label_count(olds) + news.count;
+    let used = Set8::load(words, USED);
+    let labels = olds.label_count() + news.count;
     let mut end: usize = 0;
-    let mut l: usize = 0;
-    while l < labels {
-        match put_label(draft, end, old, add, olds, news, l, used.has(l)) {
-            Drafted::TooLarge => {
-                return Drafted::TooLarge;
-            }
-            Drafted::Length(more) => {
-                end = more;
-            }
-        }
-        l += 1;
+    for l in 0..labels {
+        end = put_label(draft, end, old, add, olds, news, l, used.has(l))?;
     }
-    Drafted::Length(end)
+    Ok(end)
 }

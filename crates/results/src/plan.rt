@@ -1,5 +1,5 @@
 // What the rules of a result are written from.
-use sets::eight::Set8;
+use sets::set::Set8;
 use union::lists::TypeLists;
 use union::united::United;
 

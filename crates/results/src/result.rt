@@ -15,8 +15,9 @@ use crate::labels_used::{labels_used, put_labels};
 use crate::plan::Plan;
 use crate::rules::put_rest;
 use crate::starts::put_starts;
+use grammar::TooLarge;
+use reader::index::TableIndex;
 use union::labels::Names;
-use writer::writing::Drafted;
 
 // Writes the starts, the rules and the end.
 fn put_body(
@@ -27,17 +28,15 @@ fn put_body(
     add: &[u8],
     plan: Plan,
     words: &[u32],
-) -> Drafted
+) -> Result<usize, TooLarge>
     requires { (at ≤ input_limit) × (input_limit ≤ length draft.old) × (2 + draft_length ≤ length scratch.old)
         × RulesWith old.now add.now plan words.now }
     ensures { (q : RulesWith old.now add.now plan words.now)
         → TablePut draft.old at (rule_from q.rules) plan.count
         (body_bytes (set_of_eight_at words.now start_types_at) (rule_from q.rules) plan.count) draft.new result }
 {
-    match put_starts(draft, at, words, plan.count) {
-        Drafted::TooLarge => Drafted::TooLarge,
-        Drafted::Length(end) => put_rest(draft, end, scratch, old, add, plan, words),
-    }
+    let end = put_starts(draft, at, words, plan.count)?;
+    put_rest(draft, end, scratch, old, add, plan, words)
 }
 
 // Writes the table of a result: the labels used, the starts, a rule for each set, the end.
@@ -47,10 +46,10 @@ pub fn put_result(
     old: &[u8],
     add: &[u8],
     plan: Plan,
-    olds: &[u16; 899],
+    olds: &TableIndex,
     news: Names,
     words: &mut [u32],
-) -> Drafted
+) -> Result<usize, TooLarge>
     requires { (input_limit ≤ length draft.old) × (2 + draft_length ≤ length scratch.old)
         × ResultFrom old.now add.now plan olds.now news words.old }
     ensures { (q : ResultFrom old.now add.now plan olds.now news words.old)
@@ -60,8 +59,6 @@ pub fn put_result(
         (keep (set_of_eight_at words.old start_types_at) (numbers_below plan.count)))) draft.new result }
 {
     labels_used(plan.union, words, plan.count);
-    match put_labels(draft, old, add, olds, news, words) {
-        Drafted::TooLarge => Drafted::TooLarge,
-        Drafted::Length(end) => put_body(draft, end, scratch, old, add, plan, words),
-    }
+    let end = put_labels(draft, old, add, olds, news, words)?;
+    put_body(draft, end, scratch, old, add, plan, words)
 }

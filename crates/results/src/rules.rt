@@ -18,18 +18,17 @@ ghost use Rattle.results.specs.PlanKind.{kind_of};
 use crate::labels_used::label_place;
 use crate::plan::{Kind, Plan};
 use crate::text_pairs::has_text;
-use contents::completing::ContentMade;
 use contents::joining::{ResultTypes, content_of_set};
 use forms::label_sets::{label_numbers, set_label};
 use forms::set_numbers::result_lists;
+use grammar::TooLarge;
 use operands::limits::DRAFT;
 use reader::tags::TABLE_END_TAG;
 use reducing::meeting::met_set;
 use reducing::type_lists::types_listed;
-use sets::eight::Set8;
-use sets::words::load_eight;
+use sets::set::Set8;
 use union::places::{LEFT, USED};
-use writer::writing::{Drafted, put_field, rule_tag};
+use writer::writing::{put_field, rule_tag};
 
 // The scratch bytes in which a rule is made: its type, its label, and the draft of its content.
 pub const SCRATCH: usize = 2 + DRAFT;
@@ -42,8 +41,7 @@ fn pairs_within(old: &[u8], add: &[u8], plan: Plan, left: Set8, set: Set8) -> Se
         → ListsOf (fruitful_of u) plan.lists → member left.words 0 ≡ is_left u → member set.words 0 ≡ (λ p. is_in p s)
         → member result.words 0 ≡ pairs_within (kind_of plan.kind) u s) × (length result.words ≡ 8) }
 {
-    let kind = plan.kind;
-    match kind {
+    match plan.kind {
         Kind::Local => left,
         Kind::SingleType => met_set(old, add, plan.union, plan.lists, set),
     }
@@ -58,14 +56,14 @@ fn set_content(
     words: &[u32],
     i: usize,
     set: Set8,
-) -> ContentMade
+) -> Result<usize, TooLarge>
     requires { (draft_length ≤ length scratch.old) × (i < plan.count) × (set.words ≡ words_at words.now (8 * i) 8)
         × RulesFrom old.now add.now plan words.now }
     ensures { (q : RulesFrom old.now add.now plan words.now)
         → Made scratch.new (rule_from q i).content result }
 {
     let v = plan.union;
-    let left = load_eight(words, LEFT);
+    let left = Set8::load(words, LEFT);
     let within = pairs_within(old, add, plan, left, set);
     let numbers = label_numbers(v, plan.labels, within, words, plan.count);
     let lists = result_lists(v, plan.lists, left, numbers);
@@ -83,26 +81,21 @@ fn put_rule(
     plan: Plan,
     words: &[u32],
     i: usize,
-) -> Drafted
+) -> Result<usize, TooLarge>
     requires { (at ≤ input_limit) × (input_limit ≤ length draft.old) × (2 + draft_length ≤ length scratch.old) × (i < plan.count)
         × RulesWith old.now add.now plan words.now }
     ensures { (q : RulesWith old.now add.now plan words.now)
         → RulePuts draft.old at (rule_from q.rules i) draft.new result }
 {
-    let set = load_eight(words, 8 * i);
-    let used = load_eight(words, USED);
+    let set = Set8::load(words, 8 * i);
+    let used = Set8::load(words, USED);
     let label = label_place(used, set_label(plan.union, set));
-    match set_content(&mut scratch[2..], old, add, plan, words, i, set) {
-        ContentMade::TooLarge => Drafted::TooLarge,
-        ContentMade::Upto { end } => {
-            scratch[0] = i as u8;
-            scratch[1] = label as u8;
-            let stop = end + 2;
-            let v = plan.union;
-            let tag = rule_tag(has_text(set, plan.text, v.rules));
-            put_field(draft, at, tag, &scratch[0..stop])
-        }
-    }
+    let end = set_content(&mut scratch[2..], old, add, plan, words, i, set)?;
+    scratch[0] = i as u8;
+    scratch[1] = label as u8;
+    let stop = end + 2;
+    let tag = rule_tag(has_text(set, plan.text, plan.union.rules));
+    put_field(draft, at, tag, &scratch[0..stop])
 }
 
 // Writes the rules.
@@ -114,26 +107,17 @@ fn put_rules(
     add: &[u8],
     plan: Plan,
     words: &[u32],
-) -> Drafted
+) -> Result<usize, TooLarge>
     requires { (at ≤ input_limit) × (input_limit ≤ length draft.old) × (2 + draft_length ≤ length scratch.old)
         × RulesWith old.now add.now plan words.now }
     ensures { (q : RulesWith old.now add.now plan words.now)
         → RulesPut draft.old at (rule_from q.rules) plan.count draft.new result }
 {
     let mut end = at;
-    let mut i: usize = 0;
-    while i < plan.count {
-        match put_rule(draft, end, scratch, old, add, plan, words, i) {
-            Drafted::TooLarge => {
-                return Drafted::TooLarge;
-            }
-            Drafted::Length(more) => {
-                end = more;
-            }
-        }
-        i += 1;
+    for i in 0..plan.count {
+        end = put_rule(draft, end, scratch, old, add, plan, words, i)?;
     }
-    Drafted::Length(end)
+    Ok(end)
 }
 
 // Writes the rules and the end.
@@ -145,15 +129,13 @@ pub fn put_rest(
     add: &[u8],
     plan: Plan,
     words: &[u32],
-) -> Drafted
+) -> Result<usize, TooLarge>
     requires { (at ≤ input_limit) × (input_limit ≤ length draft.old) × (2 + draft_length ≤ length scratch.old)
         × RulesWith old.now add.now plan words.now }
     ensures { (q : RulesWith old.now add.now plan words.now)
         → TablePut draft.old at (rule_from q.rules) plan.count
         (rest_bytes (rule_from q.rules) plan.count) draft.new result }
 {
-    match put_rules(draft, at, scratch, old, add, plan, words) {
-        Drafted::TooLarge => Drafted::TooLarge,
-        Drafted::Length(end) => put_field(draft, end, TABLE_END_TAG, &scratch[0..0]),
-    }
+    let end = put_rules(draft, at, scratch, old, add, plan, words)?;
+    put_field(draft, end, TABLE_END_TAG, &scratch[0..0])
 }

@@ -8,12 +8,10 @@ ghost use Rattle.union.specs.View.{Views, Viewed};
 ghost use Rattle.union.specs.TypeLists.{ListsOf};
 ghost use Rattle.union.specs.PairNumbers.{rule_numbered, fruitful_of, is_marking, is_text};
 
-use basis::numbers::wide;
 use reducing::type_lists::types_listed;
-use sets::eight::Set8;
-use union::fruitful::{put_if, rule_has};
+use sets::set::Set8;
+use union::fruitful::rule_has;
 use union::lists::TypeLists;
-use union::productive::both;
 use union::text::rule_text;
 use union::united::United;
 
@@ -23,11 +21,7 @@ fn rule_marks(old: &[u8], add: &[u8], v: United, i: usize, types: Set8) -> bool
     ensures { (u : Table) → Views old.now add.now v u
         → ((k : ℕ) → k < 256 → member types.words 0 k ≡ some_left (fruitful_of u) k) → result ≡ is_marking u (rule_numbered u i) }
 {
-    if rule_text(old, add, v, i) {
-        let has = rule_has(old, add, v, i, types);
-        return has;
-    }
-    false
+    rule_text(old, add, v, i) && rule_has(old, add, v, i, types)
 }
 
 // The pairs with such a rule.
@@ -37,14 +31,11 @@ pub fn text_pairs(old: &[u8], add: &[u8], v: United, lists: TypeLists) -> Set8
         → member result.words 0 ≡ is_text u) × (length result.words ≡ 8) }
 {
     let types = types_listed(lists);
-    let firsts = v.firsts;
-    let rules = v.rules;
     let mut set = Set8::empty();
-    let mut i: usize = 0;
-    while i < rules {
-        let more = put_if(rule_marks(old, add, v, i, types), set, wide(firsts[i]));
-        set = more;
-        i += 1;
+    for i in 0..v.rules {
+        if rule_marks(old, add, v, i, types) {
+            set = set.with(usize::from(v.firsts[i]));
+        }
     }
     set
 }
@@ -54,12 +45,5 @@ pub fn has_text(set: Set8, text: Set8, pairs: usize) -> bool
     requires { pairs ≤ 256 }
     ensures { result ≡ any_pass (λ p. member set.words 0 p && member text.words 0 p) (numbers_below pairs) }
 {
-    let mut p: usize = 0;
-    while p < pairs {
-        if both(set.has(p), text.has(p)) {
-            return true;
-        }
-        p += 1;
-    }
-    false
+    (0..pairs).any(|p| set.has(p) && text.has(p))
 }

@@ -6,7 +6,7 @@ use mathlib.Core.List.{List, [], map}
 use mathlib.Core.Path.{◌≡◌, sym, ◌∙◌, ap}
 use lib.ListN.{length, get_or-map, get_or, take}
 use Rattle.grammar.specs.Limits.{Limits}
-use Rattle.grammar.specs.Outcome.{given}
+use Rattle.std.specs.Prelude.{Ok}
 use Rattle.grammar.specs.Tree.{Tree}
 use Rattle.grammar.specs.ReadDocument.{Node, tree_of}
 use Rattle.theory.proofs.Lists.ListLaws.{at_else}
@@ -46,12 +46,12 @@ module _ (lim : Limits) (s : List ℕ) (ix : DocumentIndex) (x : HoldsNodes lim 
   abbrev pub index_counted : CountedTree ix.shapes ix.nodes
   index_counted = record { list = ns; counts = count_is; many = nodes_count s ix; one = one_tree.0; enough = one_tree.1 }
 
-  pub index_tree : (t : Tree) × (tree_of ns ≡ given t)
+  pub index_tree : (t : Tree) × (tree_of ns ≡ Ok t)
   index_tree = let r = document_tree lim x.classes x.format s ns x.reads in (r.0, r.1)
 
   module _ (parents : List ℕ) (ps : take ix.nodes parents ≡ parents_of ns) (long : length parents ≡ 2048) (ln : length ix.names ≡ 2048)
       (ls : length ix.sizes ≡ 2048) where
-    abbrev pub index_whole : (d : Tree) → tree_of ns ≡ given d → Whole s ix.names ix.sizes parents ix.nodes
+    abbrev pub index_whole : (d : Tree) → tree_of ns ≡ Ok d → Whole s ix.names ix.sizes parents ix.nodes
     index_whole d e =
         record {
           list = ns;
@@ -71,7 +71,7 @@ module _ (lim : Limits) (s : List ℕ) (ix : DocumentIndex) (x : HoldsNodes lim 
 
     module _ (types firsts : List ℕ) (count : ℕ) (lk : length ix.shapes ≡ 2048) (lt : length types ≡ 2048) (lf : length firsts ≡ 2048)
         (t : (q : Whole s ix.names ix.sizes parents ix.nodes) → TypedTo q.list q.tree types firsts count ix.nodes) where
-      abbrev pub index_held : (d : Tree) → tree_of ns ≡ given d → SampleHeld s ix.names ix.sizes ix.shapes parents types firsts ix.nodes count
+      abbrev pub index_held : (d : Tree) → tree_of ns ≡ Ok d → SampleHeld s ix.names ix.sizes ix.shapes parents types firsts ix.nodes count
       index_held d e =
           record {
             whole = index_whole d e;

@@ -19,7 +19,7 @@ use Rattle.grammar.specs.LimitSets.{limits_of}
 use Rattle.grammar.specs.Names.{Name, same_name}
 use Rattle.grammar.specs.Content.{Content, choice_of}
 use Rattle.grammar.specs.ReadContent.{same_content}
-use Rattle.grammar.specs.Outcome.{given, refused}
+use Rattle.std.specs.Prelude.{Ok, Err, Result}
 use Rattle.grammar.specs.Tree.{Tree}
 use Rattle.grammar.specs.Table.{Rule, Table}
 use Rattle.grammar.specs.Fields.{field_bytes}
@@ -30,6 +30,7 @@ use Rattle.grammar.specs.Sample.{sample, sequence_of}
 use Rattle.grammar.specs.Widen.{sample_table}
 use Rattle.grammar.specs.declared.Refusal.TheVariants.{ResultTooLarge}
 use Rattle.grammar.specs.declared.SizeLimits.{SizeLimits}
+use Rattle.grammar.specs.declared.TooLarge.{TooLarge}
 use Rattle.theory.specs.Alternatives.{gathered}
 use Rattle.theory.proofs.Lists.ListLaws.{
   at_else,
@@ -49,8 +50,6 @@ use Rattle.theory.proofs.Lists.ListLaws.{
 }
 use Rattle.theory.proofs.Lists.DistinctLaws.{distinct_on}
 use Rattle.theory.proofs.Emission.EmittedContent.{joined_map}
-use Rattle.writer.specs.declared.writing.Drafted.{Drafted}
-use Rattle.writer.specs.declared.writing.Drafted.TheVariants.{Length, TooLarge}
 use Rattle.sequences.specs.SampleContents.{kid_types, NodesHeld, sequence_in, sequences_among, content_in}
 use Rattle.sequences.specs.SampleTexts.{mark_in, text_in, MarksHeld}
 use Rattle.writer.specs.Tables.{numbered_field, rules_bytes, TablePut}
@@ -191,16 +190,16 @@ module _ {s names sizes shapes parents types firsts : List ℕ} {n count : ℕ}
   sample_is = sample_nodes ns q.whole.one q.whole.enough d q.whole.is_tree
 
   -- the sample is given if a file can hold it
-  too_large_lem : (limits : SizeLimits) → too_large (limits_of limits) (sample d) ≡ true → sample_table (limits_of limits) d ≡ refused ResultTooLarge
+  too_large_lem : (limits : SizeLimits) → too_large (limits_of limits) (sample d) ≡ true → sample_table (limits_of limits) d ≡ Err ResultTooLarge
   unfolding sample_table
   too_large_lem limits e = size_over limits (sample d) e
 
-  fitting : (limits : SizeLimits) → too_large (limits_of limits) (sample d) ≡ false → sample_table (limits_of limits) d ≡ given (sample d)
+  fitting : (limits : SizeLimits) → too_large (limits_of limits) (sample d) ≡ false → sample_table (limits_of limits) d ≡ Ok (sample d)
   unfolding sample_table
   fitting limits e = size_fits limits (sample d) e
 
   -- too many types
-  pub sample_wide : (limits : SizeLimits) → limits.rules < count → sample_table (limits_of limits) d ≡ refused ResultTooLarge
+  pub sample_wide : (limits : SizeLimits) → limits.rules < count → sample_table (limits_of limits) d ≡ Err ResultTooLarge
   sample_wide limits h = let m = rules_many in too_large_lem limits (types_over limits (sample d) (omega arith))
 
   module _ {labels lfirsts : List ℕ} {lcount : ℕ} (l : LabelledTo s names sizes firsts labels lfirsts lcount count) (held : lcount ≤ length lfirsts) where
@@ -278,9 +277,9 @@ module _ {s names sizes shapes parents types firsts : List ℕ} {n count : ℕ}
         (t, h, rule_same t h ∙ ap (rule_of_node ns d) f ∙ e)
 
     -- The limits of a content are the same for all sizes.
-    pub sample_drafted : (limits : SizeLimits) → count ≤ limits.rules → (before after : List ℕ) (r : Drafted)
+    pub sample_drafted : (limits : SizeLimits) → count ≤ limits.rules → (before after : List ℕ) (r : Result ℕ TooLarge)
         → TablePut before 0 rule count bytes after r → SampleDrafted (limits_of limits) d before after r
-    sample_drafted limits few before after (Length m) (p, small, fits) =
+    sample_drafted limits few before after (Ok m) (p, small, fits) =
         let e = table_same in
         let long : m ≡ length (table_bytes (sample d)) = p.next_is ∙ (let z : 0 + length bytes ≡ length bytes = omega arith in z) ∙ ap length e in
         let k = rules_many in (
@@ -294,7 +293,7 @@ module _ {s names sizes shapes parents types firsts : List ℕ} {n count : ℕ}
           long,
           small,
         )
-    sample_drafted limits few before after TooLarge o =
+    sample_drafted limits few before after (Err over) o =
         let e = ap length table_same in
         ⊎_elim
         (λ x. too_large_lem limits (content_over limits (sample d) (in_sample x.0 x.1) x.2))

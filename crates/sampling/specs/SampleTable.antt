@@ -1,21 +1,19 @@
 -- The table of a sample, by arrays: the rule of each type, and whether it is written.
-use Rattle.std.specs.Prelude.{ℕ, ◌≤◌, ◌<◌, List, [], ◌∷◌, ◌++◌, ◌≡◌, length, get_or, drop}
+use Rattle.std.specs.Prelude.{ℕ, ◌≤◌, ◌<◌, List, [], ◌∷◌, ◌++◌, ◌≡◌, length, get_or, drop, Ok, Err, Result}
 use Rattle.grammar.specs.Limits.{Limits, input_limit, child_limit}
 use Rattle.grammar.specs.Table.{Rule}
 use Rattle.grammar.specs.Fields.{field_bytes}
 use Rattle.grammar.specs.ReadTable.{label_tag, start_tag}
 use Rattle.grammar.specs.WriteTable.{table_bytes}
 use Rattle.grammar.specs.Names.{Classes}
-use Rattle.grammar.specs.Outcome.{given, refused}
 use Rattle.grammar.specs.Tree.{Tree}
 use Rattle.grammar.specs.Sample.{sample}
 use Rattle.grammar.specs.Widen.{sample_table}
 use Rattle.grammar.specs.declared.Format.{Format}
 use Rattle.grammar.specs.declared.Refusal.TheVariants.{ResultTooLarge}
+use Rattle.grammar.specs.declared.TooLarge.{TooLarge}
 use Rattle.documents.specs.declared.documents.DocumentIndex.{DocumentIndex}
 use Rattle.documents.specs.DocumentNodes.{nodes_in, read_nodes_as, NodesIndexed}
-use Rattle.writer.specs.declared.writing.Drafted.{Drafted}
-use Rattle.writer.specs.declared.writing.Drafted.TheVariants.{Length, TooLarge}
 use Rattle.writer.specs.Tables.{rest_bytes}
 use Rattle.paths.specs.SampleNodes.{name_in, mark_at, kids_of, Whole, TypedTo}
 use Rattle.sequences.specs.SampleContents.{NodesHeld, content_in}
@@ -56,19 +54,19 @@ pub record SampleHeld (s names sizes shapes parents types firsts : List ℕ) (n 
   pub firsts_held : count ≤ length firsts
 
 -- The sample of a document is written from the draft's beginning, and the rest of the draft is kept; or it is too large.
-abbrev pub SampleDrafted : Limits → Tree → List ℕ → List ℕ → Drafted → Type 0
-SampleDrafted lim d before after (Length n) =
-    (sample_table lim d ≡ given (sample d))
+abbrev pub SampleDrafted : Limits → Tree → List ℕ → List ℕ → Result ℕ TooLarge → Type 0
+SampleDrafted lim d before after (Ok n) =
+    (sample_table lim d ≡ Ok (sample d))
     × (after ≡ table_bytes (sample d) ++ drop n before)
     × (n ≡ length (table_bytes (sample d)))
     × (n ≤ input_limit)
-SampleDrafted lim d before after TooLarge = sample_table lim d ≡ refused ResultTooLarge
+SampleDrafted lim d before after (Err over) = sample_table lim d ≡ Err ResultTooLarge
 
 -- a document's nodes, read under some classes from some format, are those that an index holds
 pub record HoldsNodes (lim : Limits) (s : List ℕ) (ix : DocumentIndex) : Type 0 where
   pub classes : Classes
   pub format : Format
-  pub reads : read_nodes_as lim classes format s ≡ given (nodes_in s ix)
+  pub reads : read_nodes_as lim classes format s ≡ Ok (nodes_in s ix)
   pub indexed : NodesIndexed s ix.names ix.sizes ix.shapes ix.nodes
 
 -- the arrays hold the nodes of a tree and their types, and no node has too many children

@@ -9,8 +9,9 @@ ghost use Rattle.sampling.specs.SampleTable.{rule_in, label_field, RulesHeld, st
 ghost use Rattle.paths.specs.SampleNodes.{KeysAt};
 
 use crate::rules::put_rules;
+use grammar::TooLarge;
 use reader::tags::{LABEL_TAG, START_TAG, TABLE_END_TAG};
-use writer::writing::{Drafted, put_field};
+use writer::writing::put_field;
 
 // Writes the labels: each first node's name.
 pub fn put_labels(
@@ -21,7 +22,7 @@ pub fn put_labels(
     keys: &[u16],
     firsts: &[u16],
     count: usize,
-) -> Drafted
+) -> Result<usize, TooLarge>
     requires { (input_limit ≤ length draft.old) × (count ≤ 128)
         × KeysAt s.now names.now sizes.now keys.now firsts.now count }
     ensures { Puts draft.old 0
@@ -29,22 +30,13 @@ pub fn put_labels(
         draft.new result }
 {
     let mut end: usize = 0;
-    let mut l: usize = 0;
-    while l < count {
-        let i = firsts[l] as usize;
-        let from = names[i] as usize;
-        let to = from + sizes[i] as usize;
-        match put_field(draft, end, LABEL_TAG, &s[from..to]) {
-            Drafted::TooLarge => {
-                return Drafted::TooLarge;
-            }
-            Drafted::Length(more) => {
-                end = more;
-            }
-        }
-        l += 1;
+    for first in &firsts[..count] {
+        let i = usize::from(*first);
+        let from = usize::from(names[i]);
+        let to = from + usize::from(sizes[i]);
+        end = put_field(draft, end, LABEL_TAG, &s[from..to])?;
     }
-    Drafted::Length(end)
+    Ok(end)
 }
 
 // Writes the rules and the end.
@@ -58,7 +50,7 @@ fn put_rest(
     nodes: usize,
     labels: &[u8],
     count: usize,
-) -> Drafted
+) -> Result<usize, TooLarge>
     requires { (at ≤ input_limit) × (input_limit ≤ length draft.old) × (scratch_bytes ≤ length scratch.old)
         × RulesHeld shapes.now parents.now types.now labels.now nodes count }
     ensures { TablePut draft.old at
@@ -67,12 +59,10 @@ fn put_rest(
         (rule_in shapes.now parents.now types.now labels.now nodes) count)
         draft.new result }
 {
-    match put_rules(
+    let end = put_rules(
         draft, at, scratch, shapes, parents, types, nodes, labels, count,
-    ) {
-        Drafted::TooLarge => Drafted::TooLarge,
-        Drafted::Length(end) => put_field(draft, end, TABLE_END_TAG, &scratch[0..0]),
-    }
+    )?;
+    put_field(draft, end, TABLE_END_TAG, &scratch[0..0])
 }
 
 // Writes the start, the rules and the end.
@@ -86,7 +76,7 @@ pub fn put_start(
     nodes: usize,
     labels: &[u8],
     count: usize,
-) -> Drafted
+) -> Result<usize, TooLarge>
     requires { (at ≤ input_limit) × (input_limit ≤ length draft.old) × (scratch_bytes ≤ length scratch.old)
         × RulesHeld shapes.now parents.now types.now labels.now nodes count }
     ensures { TablePut draft.old at
@@ -96,10 +86,8 @@ pub fn put_start(
         draft.new result }
 {
     let root = [0u8; 1];
-    match put_field(draft, at, START_TAG, &root) {
-        Drafted::TooLarge => Drafted::TooLarge,
-        Drafted::Length(end) => put_rest(
-            draft, end, scratch, shapes, parents, types, nodes, labels, count,
-        ),
-    }
+    let end = put_field(draft, at, START_TAG, &root)?;
+    put_rest(
+        draft, end, scratch, shapes, parents, types, nodes, labels, count,
+    )
 }

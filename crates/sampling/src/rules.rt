@@ -5,9 +5,10 @@ ghost use Rattle.sequences.specs.SampleContents.{NodesHeld, scratch_bytes, conte
 ghost use Rattle.writer.specs.Tables.{RulePuts, RulesPut};
 ghost use Rattle.sampling.specs.SampleTable.{rule_in, RulesHeld};
 
+use grammar::TooLarge;
 use sequences::choices::make_content;
 use sequences::texts::type_text;
-use writer::writing::{Drafted, put_field, rule_tag};
+use writer::writing::{put_field, rule_tag};
 
 // Writes the rule of a type.
 fn put_rule(
@@ -20,21 +21,17 @@ fn put_rule(
     k: usize,
     label: u8,
     text: bool,
-) -> Drafted
+) -> Result<usize, TooLarge>
     requires { (at ≤ input_limit) × (input_limit ≤ length draft.old) × (scratch_bytes ≤ length scratch.old) × (k < 256)
         × NodesHeld parents.now types.now nodes }
     ensures { RulePuts draft.old at
         (record { type = k; label = label; content = content_in parents.now types.now nodes k; text = text })
         draft.new result }
 {
-    match make_content(scratch, parents, types, nodes, k) {
-        Drafted::TooLarge => Drafted::TooLarge,
-        Drafted::Length(stop) => {
-            scratch[0] = k as u8;
-            scratch[1] = label;
-            put_field(draft, at, rule_tag(text), &scratch[0..stop])
-        }
-    }
+    let stop = make_content(scratch, parents, types, nodes, k)?;
+    scratch[0] = k as u8;
+    scratch[1] = label;
+    put_field(draft, at, rule_tag(text), &scratch[0..stop])
 }
 
 // Writes the rules in the order of the types.
@@ -48,7 +45,7 @@ pub fn put_rules(
     nodes: usize,
     labels: &[u8],
     count: usize,
-) -> Drafted
+) -> Result<usize, TooLarge>
     requires { (at ≤ input_limit) × (input_limit ≤ length draft.old) × (scratch_bytes ≤ length scratch.old)
         × RulesHeld shapes.now parents.now types.now labels.now nodes count }
     ensures { RulesPut draft.old at
@@ -56,19 +53,10 @@ pub fn put_rules(
         draft.new result }
 {
     let mut end = at;
-    let mut k: usize = 0;
-    while k < count {
+    for k in 0..count {
         let l = labels[k];
         let text = type_text(shapes, types, nodes, k);
-        match put_rule(draft, end, scratch, parents, types, nodes, k, l, text) {
-            Drafted::TooLarge => {
-                return Drafted::TooLarge;
-            }
-            Drafted::Length(more) => {
-                end = more;
-            }
-        }
-        k += 1;
+        end = put_rule(draft, end, scratch, parents, types, nodes, k, l, text)?;
     }
-    Drafted::Length(end)
+    Ok(end)
 }

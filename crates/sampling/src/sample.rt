@@ -1,8 +1,7 @@
 // The sample of a document: one type for each path of names, written as a table.
-ghost use Rattle.std.specs.Prelude.{◌≤◌, ◌≡◌, length};
+ghost use Rattle.std.specs.Prelude.{◌≤◌, ◌≡◌, length, Ok};
 ghost use Rattle.grammar.specs.Limits.{input_limit};
-ghost use Rattle.grammar.specs.LimitSets.{limits_of, Within};
-ghost use Rattle.grammar.specs.Outcome.{given};
+ghost use Rattle.grammar.specs.LimitSets.{limits_of};
 ghost use Rattle.grammar.specs.Tree.{Tree};
 ghost use Rattle.grammar.specs.ReadDocument.{tree_of};
 ghost use Rattle.documents.specs.DocumentNodes.{nodes_in};
@@ -10,12 +9,11 @@ ghost use Rattle.sampling.specs.SampleTable.{SampleHeld, SampleReady, SampleDraf
 
 use crate::fields::{put_labels, put_start};
 use documents::documents::DocumentIndex;
-use grammar::SizeLimits;
+use grammar::{SizeLimits, TooLarge};
 use paths::labels::labels_of;
 use paths::parents::parents_of;
 use paths::paths::types_of;
 use sequences::limits::SCRATCH;
-use writer::writing::Drafted;
 
 // Writes the sample of nodes whose types are found, unless there are too many types.
 fn write_sample(
@@ -30,8 +28,7 @@ fn write_sample(
     firsts: &[u16],
     nodes: usize,
     count: usize,
-) -> Drafted
-    requires within { Within limits }
+) -> Result<usize, TooLarge>
     requires input_limit_in_bounds { (input_limit ≤ length draft.old)
         × SampleReady s.now names.now sizes.now shapes.now parents.now types.now firsts.now nodes count }
     ensures { (q : SampleHeld s.now names.now sizes.now shapes.now
@@ -39,56 +36,50 @@ fn write_sample(
         → SampleDrafted (limits_of limits) q.whole.tree draft.old draft.new result }
 {
     if limits.rules < count {
-        return Drafted::TooLarge;
+        return Err(TooLarge);
     }
     let keys = [0u16; 2048];
     let found = labels_of(s, names, sizes, &keys, firsts, count);
     let labels = found.of;
     let named = found.firsts;
     let mut scratch = [0u8; SCRATCH];
-    match put_labels(draft, s, names, sizes, &keys, &named, found.count) {
-        Drafted::TooLarge => Drafted::TooLarge,
-        Drafted::Length(end) => put_start(
-            draft,
-            end,
-            &mut scratch,
-            shapes,
-            parents,
-            types,
-            nodes,
-            &labels,
-            count,
-        ),
-    }
+    let end = put_labels(draft, s, names, sizes, &keys, &named, found.count)?;
+    put_start(
+        draft,
+        end,
+        &mut scratch,
+        shapes,
+        parents,
+        types,
+        nodes,
+        &labels,
+        count,
+    )
 }
 
 // The sample of a document as a table, from the draft's beginning.
 pub fn sample_table(
     limits: SizeLimits,
     document: &[u8],
-    index: DocumentIndex,
+    index: &DocumentIndex,
     draft: &mut [u8],
-) -> Drafted
-    requires within { Within limits }
-    requires input_limit_in_bounds { (input_limit ≤ length draft.old) × HoldsNodes (limits_of limits) document.now index }
-    ensures { (d : Tree) → tree_of (nodes_in document.now index) ≡ given d
+) -> Result<usize, TooLarge>
+    requires input_limit_in_bounds { (input_limit ≤ length draft.old) × HoldsNodes (limits_of limits) document.now index.now }
+    ensures { (d : Tree) → tree_of (nodes_in document.now index.now) ≡ Ok d
         → SampleDrafted (limits_of limits) d draft.old draft.new result }
 {
-    let names = index.names;
-    let sizes = index.sizes;
-    let shapes = index.shapes;
     let nodes = index.nodes;
-    let parents = parents_of(&shapes, nodes);
-    let types = types_of(document, &names, &sizes, &parents, nodes);
+    let parents = parents_of(&index.shapes, nodes);
+    let types = types_of(document, &index.names, &index.sizes, &parents, nodes);
     let of = types.of;
     let firsts = types.firsts;
     write_sample(
         limits,
         draft,
         document,
-        &names,
-        &sizes,
-        &shapes,
+        &index.names,
+        &index.sizes,
+        &index.shapes,
         &parents,
         &of,
         &firsts,

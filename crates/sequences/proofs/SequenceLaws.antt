@@ -10,10 +10,12 @@ use mathlib.Core.Path.{◌≡◌, sym, ◌∙◌, ap, subst}
 use lib.Dec.{eqb}
 use borrow.Author.Tests.{eq-eqb, ne_eqb}
 use lib.ListN.{length, get_or, drop}
+use Rattle.std.specs.Prelude.{Err, Ok, Result}
 use Rattle.grammar.specs.Limits.{content_limit, operand_limit}
 use Rattle.grammar.specs.Lists.{keep, distinct, numbers_below}
 use Rattle.grammar.specs.Content.{Content, operands}
 use Rattle.grammar.specs.ReadContent.{content_bytes}
+use Rattle.grammar.specs.declared.TooLarge.{TooLarge}
 use Rattle.theory.specs.Alternatives.{gathered}
 use Rattle.theory.proofs.Lists.ListLaws.{keep_yes, keep_no, numbers_end, numbers_split}
 use Rattle.theory.proofs.Lists.DistinctLaws.{keep_append}
@@ -21,7 +23,6 @@ use Rattle.theory.proofs.Emission.GatheringLaws.{gathered_so, gather_nothing, ga
 use Rattle.reader.specs.ExprAt.{◌up_to◌}
 use Rattle.reader.proofs.ExprLaws.{expr_of, exprs_none, exprs_kept}
 use Rattle.operands.specs.declared.drafts.Gathering.{Gathering}
-use Rattle.operands.specs.declared.drafts.Gathering.TheVariants.{TooLarge, Upto}
 use Rattle.operands.specs.Drafts.{Row, Kept, Newest, TooWide, GathersWith, GathersIn}
 use Rattle.operands.specs.Notes.{Noted}
 use Rattle.writer.specs.Writing.{Put}
@@ -105,19 +106,19 @@ module _ (parents types : List ℕ) (n k : ℕ) where
         }
 
   -- after one node of the type
-  module _ (before after notes : List ℕ) (count end i : ℕ) (own : get_or types i 0 ≡ k) (r : Gathering)
+  module _ (before after notes : List ℕ) (count end i : ℕ) (own : get_or types i 0 ≡ k) (r : Result Gathering TooLarge)
       (g : GathersWith (Noted notes) before after (sequence_row count end) 0
       (gathered (gathered [] (among (numbers_below i))) (sequence_in parents types n i ∷ [])) r) where
     so_far : GathersWith (Noted notes) before after (sequence_row count end) 0 (gathered [] (among (numbers_below (i + 1)))) r
     so_far = subst (λ (l : List Content). GathersWith (Noted notes) before after (sequence_row count end) 0 l r) (among_more i own) g
 
-    pub gather_stop : r ≡ TooLarge → i < n → GathersIn after no_sequences (gathered [] (among (numbers_below n))) TooLarge
+    pub gather_stop : r ≡ Err (record {}) → i < n → GathersIn after no_sequences (gathered [] (among (numbers_below n))) (Err (record {}))
     unfolding GathersIn
     gather_stop e h =
         among_wide i n h
         (told_large before after 4 end operands_end 0 (gathered [] (among (numbers_below (i + 1)))) r e so_far.gathers)
 
-    pub gather_next : {m c stop : ℕ} → r ≡ Upto m c stop
+    pub gather_next : {m c stop : ℕ} → r ≡ Ok (record { next = m; count = c; end = stop })
         → Row after 4 c (gathered [] (among (numbers_below (i + 1)))) stop
         × (stop ≤ operands_end)
         × Noted notes (gathered [] (among (numbers_below (i + 1))))
@@ -126,7 +127,7 @@ module _ (parents types : List ℕ) (n k : ℕ) where
         (t.row, t.fits, so_far.noted e)
 
   pub gather_all : {d : List ℕ} {c stop i : ℕ} (m : ℕ) → Row d 4 c (gathered [] (among (numbers_below i))) stop → stop ≤ operands_end → i ≡ n
-      → GathersIn d no_sequences (gathered [] (among (numbers_below n))) (Upto m c stop)
+      → GathersIn d no_sequences (gathered [] (among (numbers_below n))) (Ok (record { next = m; count = c; end = stop }))
   unfolding GathersIn
   gather_all {d} {c} {stop} m row fits e =
       (subst (λ (j : ℕ). Row d 4 c (gathered [] (among (numbers_below j))) stop) e row, fits)
@@ -136,11 +137,11 @@ module _ (parents types : List ℕ) (n k : ℕ) where
   among_noted notes h = noted_none notes h
 
 -- what a gathering's answer says
-module _ (d : List ℕ) (ds : List Content) (r : Gathering) (g : GathersIn d no_sequences ds r) where
-  pub upto_row : {m c e : ℕ} → r ≡ Upto m c e → Row d 4 c ds e × (e ≤ operands_end)
+module _ (d : List ℕ) (ds : List Content) (r : Result Gathering TooLarge) (g : GathersIn d no_sequences ds r) where
+  pub upto_row : {m c e : ℕ} → r ≡ Ok (record { next = m; count = c; end = e }) → Row d 4 c ds e × (e ≤ operands_end)
   unfolding GathersIn
-  upto_row e = subst (λ (x : Gathering). GathersIn d no_sequences ds x) e g
+  upto_row e = subst (λ (x : Result Gathering TooLarge). GathersIn d no_sequences ds x) e g
 
-  pub stop_wide : r ≡ TooLarge → TooWide content_limit ds
+  pub stop_wide : r ≡ Err (record {}) → TooWide content_limit ds
   unfolding GathersIn
-  stop_wide e = subst (λ (x : Gathering). GathersIn d no_sequences ds x) e g
+  stop_wide e = subst (λ (x : Result Gathering TooLarge). GathersIn d no_sequences ds x) e g

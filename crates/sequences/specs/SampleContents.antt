@@ -1,5 +1,27 @@
 -- The contents of a sample, by arrays of parents and types.
-use Rattle.std.specs.Prelude.{ℕ, suc, ◌+◌, ◌-◌, ◌≤◌, ◌<◌, Bool, true, false, ◌&&◌, List, [], map, ◌≡◌, eqb, ltb, length, get_or}
+use Rattle.std.specs.Prelude.{
+  ℕ,
+  suc,
+  ◌+◌,
+  ◌-◌,
+  ◌≤◌,
+  ◌<◌,
+  Bool,
+  true,
+  false,
+  ◌&&◌,
+  List,
+  [],
+  map,
+  ◌≡◌,
+  eqb,
+  ltb,
+  length,
+  get_or,
+  Err,
+  Ok,
+  Result,
+}
 use Rattle.std.proofs.Math.Option.{some as just}
 use Rattle.grammar.specs.Limits.{large, content_limit, child_limit}
 use Rattle.grammar.specs.Lists.{keep, numbers_from, numbers_below}
@@ -7,10 +29,9 @@ use Rattle.grammar.specs.Content.{Content, operands, choice_of}
 use Rattle.grammar.specs.ReadContent.{operand_bytes}
 use Rattle.grammar.specs.Size.{content_too_large}
 use Rattle.grammar.specs.Sample.{Run, run_content, sequence_of}
+use Rattle.grammar.specs.declared.TooLarge.{TooLarge}
 use Rattle.theory.specs.Alternatives.{gathered}
 use Rattle.reader.specs.ExprAt.{◌up_to◌, expr_at}
-use Rattle.writer.specs.declared.writing.Drafted.{Drafted}
-use Rattle.writer.specs.declared.writing.Drafted.TheVariants.{Length, TooLarge}
 use Rattle.operands.specs.declared.drafts.OperandRow.{OperandRow}
 
 -- A content is made in scratch bytes: where its operands end at most, where it ends, and how many bytes are lent.
@@ -66,7 +87,7 @@ abbrev pub content_in : (parents types : List ℕ) → ℕ → ℕ → Content
 content_in parents types n k = choice_of (gathered [] (sequences_among parents types n k (numbers_below n)))
 
 -- the content stands in a draft from the second place on; or it is too large
-abbrev pub ContentMade : List ℕ → Content → Drafted → Type 0
-ContentMade draft c (Length stop) =
+abbrev pub ContentMade : List ℕ → Content → Result ℕ TooLarge → Type 0
+ContentMade draft c (Ok stop) =
     (expr_at draft 2 ≡ just (c up_to stop)) × (stop ≤ rule_end) × (content_too_large large c ≡ false)
-ContentMade draft c TooLarge = content_too_large large c ≡ true
+ContentMade draft c (Err over) = content_too_large large c ≡ true

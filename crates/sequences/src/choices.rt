@@ -7,12 +7,18 @@ ghost use Rattle.sequences.specs.SampleContents.{NodesHeld, sequences_among, no_
 
 use crate::limits::{OPERANDS_END, OPERANDS_FROM, RULE};
 use crate::sequences::put_sequence;
+use grammar::TooLarge;
 use operands::drafts::{Gathering, OperandRow, finish, settle};
 use operands::limits::OPERANDS;
-use writer::writing::Drafted;
 
 // Gathers the child sequences of the nodes of a type.
-fn gather(scratch: &mut [u8], parents: &[u16], types: &[u16], nodes: usize, k: usize) -> Gathering
+fn gather(
+    scratch: &mut [u8],
+    parents: &[u16],
+    types: &[u16],
+    nodes: usize,
+    k: usize,
+) -> Result<Gathering, TooLarge>
     requires { (scratch_bytes ≤ length scratch.old) × NodesHeld parents.now types.now nodes }
     ensures { GathersIn scratch.new no_sequences
         (gathered [] (sequences_among parents.now types.now nodes k (numbers_below nodes))) result }
@@ -20,10 +26,8 @@ fn gather(scratch: &mut [u8], parents: &[u16], types: &[u16], nodes: usize, k: u
     let mut notes = [0u32; OPERANDS];
     let mut count: usize = 0;
     let mut end: usize = OPERANDS_FROM;
-    let mut i: usize = 0;
-    while i < nodes {
-        if types[i] as usize != k {
-            i += 1;
+    for i in 0..nodes {
+        if usize::from(types[i]) != k {
             continue;
         }
         let fresh = put_sequence(scratch, end, parents, types, nodes, i);
@@ -33,26 +37,15 @@ fn gather(scratch: &mut [u8], parents: &[u16], types: &[u16], nodes: usize, k: u
             end,
             limit: OPERANDS_END,
         };
-        match settle(scratch, row, fresh, 0, &mut notes) {
-            Gathering::TooLarge => {
-                return Gathering::TooLarge;
-            }
-            Gathering::Upto {
-                next: _,
-                count: more,
-                end: last,
-            } => {
-                count = more;
-                end = last;
-            }
-        }
-        i += 1;
+        let gathered = settle(scratch, row, fresh, 0, &mut notes)?;
+        count = gathered.count;
+        end = gathered.end;
     }
-    Gathering::Upto {
+    Ok(Gathering {
         next: 0,
         count,
         end,
-    }
+    })
 }
 
 // Makes the content of a type from the second place on: the choice of its nodes' child sequences.
@@ -62,18 +55,14 @@ pub fn make_content(
     types: &[u16],
     nodes: usize,
     k: usize,
-) -> Drafted
+) -> Result<usize, TooLarge>
     requires { (scratch_bytes ≤ length scratch.old) × NodesHeld parents.now types.now nodes }
     ensures { ContentMade scratch.new (content_in parents.now types.now nodes k) result }
 {
-    match gather(scratch, parents, types, nodes, k) {
-        Gathering::TooLarge => Drafted::TooLarge,
-        Gathering::Upto { next, count, end } => {
-            let stop = finish(scratch, 2, count, end);
-            if RULE < stop {
-                return Drafted::TooLarge;
-            }
-            Drafted::Length(stop)
-        }
+    let gathered = gather(scratch, parents, types, nodes, k)?;
+    let stop = finish(scratch, 2, gathered.count, gathered.end);
+    if RULE < stop {
+        return Err(TooLarge);
     }
+    Ok(stop)
 }

@@ -25,20 +25,14 @@ fn kid_types(parents: &[u16], types: &[u16], nodes: usize, i: usize) -> Kids
 {
     let mut of = [0u8; CHILDREN];
     let mut count: usize = 0;
-    let mut j = i + 1;
-    while j < nodes {
-        if parents[j] as usize != i {
-            j += 1;
+    for j in i + 1..nodes {
+        if usize::from(parents[j]) != i {
             continue;
         }
         of[count] = types[j] as u8;
         count += 1;
-        j += 1;
     }
-    Kids {
-        of: of,
-        count: count,
-    }
+    Kids { of, count }
 }
 
 // Whether the next child is of the same type.
@@ -57,14 +51,10 @@ fn run_count(kinds: &[u8]) -> usize
     ensures { result ≡ length (runs_of kinds.now) }
 {
     let mut runs: usize = 0;
-    let mut at: usize = 0;
-    while at < kinds.len() {
-        if goes_on(kinds, at) {
-            at += 1;
-            continue;
+    for at in 0..kinds.len() {
+        if !goes_on(kinds, at) {
+            runs += 1;
         }
-        runs += 1;
-        at += 1;
     }
     runs
 }
@@ -96,12 +86,10 @@ fn put_runs(scratch: &mut [u8], at: usize, kinds: &[u8]) -> usize
 {
     let mut end = at;
     let mut begins = true;
-    let mut p: usize = 0;
-    while p < kinds.len() {
+    for (p, kind) in kinds.iter().enumerate() {
         let on = goes_on(kinds, p);
-        end = put_run(scratch, end, kinds[p], on, begins);
+        end = put_run(scratch, end, *kind, on, begins);
         begins = !on;
-        p += 1;
     }
     end
 }
@@ -138,7 +126,5 @@ pub fn put_sequence(
         scratch.new result }
 {
     let kids = kid_types(parents, types, nodes, i);
-    let kinds = kids.of;
-    let count = kids.count;
-    put_in_turn(scratch, at, &kinds[0..count])
+    put_in_turn(scratch, at, &kids.of[..kids.count])
 }

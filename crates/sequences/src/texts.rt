@@ -15,16 +15,10 @@ pub fn type_text(shapes: &[u16], types: &[u16], nodes: usize, k: usize) -> bool
     requires { MarksHeld shapes.now types.now nodes }
     ensures { result ≡ text_in shapes.now types.now nodes k }
 {
-    let mut i: usize = 0;
-    while i < nodes {
-        if types[i] as usize != k {
-            i += 1;
-            continue;
-        }
-        if holds_text(shapes, i) {
+    for i in 0..nodes {
+        if usize::from(types[i]) == k && holds_text(shapes, i) {
             return true;
         }
-        i += 1;
     }
     false
 }

@@ -2,11 +2,8 @@
 // Number k of a set stands in its word k / 32, as bit k % 32: no branch chooses the word.
 #![tactic(auto)]
 
-// A set of numbers below 128, by value.
-pub mod four;
-
-// A set of numbers below 256, by value.
-pub mod eight;
+// A set of numbers, by value.
+pub mod set;
 
 // Sets that stand in lent words.
 pub mod words;

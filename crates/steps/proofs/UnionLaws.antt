@@ -3,16 +3,17 @@
 --   none_started               where no start pair is fruitful, no document is derived
 --   reduced                    where there is one, what is known for the result
 --   for_kind                   the answer for the kind that is meant
+use Rattle.reader.specs.declared.index.TableIndex.{TableIndex}
 use Prim.Native.Nat.{ℕ}
 use native.Mathlib.Omega.{arith}
 use mathlib.Core.Bool.{Bool, true, false}
 use mathlib.Core.List.{List}
-use mathlib.Core.Path.{◌≡◌, sym, ◌∙◌, ap, subst}
-use Rattle.grammar.specs.Limits.{Limits, large}
-use Rattle.grammar.specs.LimitSets.{limits_of, Within}
+use mathlib.Core.Path.{◌≡◌, sym, ◌∙◌, ap}
+use Rattle.grammar.specs.Limits.{large}
+use Rattle.grammar.specs.LimitSets.{limits_of}
 use Rattle.grammar.specs.declared.SizeLimits.{SizeLimits}
 use Rattle.grammar.specs.Table.{Table}
-use Rattle.grammar.specs.Outcome.{refused}
+use Rattle.std.specs.Prelude.{Err}
 use Rattle.grammar.specs.Unite.{unite}
 use Rattle.grammar.specs.Widen.{widen_by_table}
 use Rattle.grammar.specs.declared.Refusal.TheVariants.{NoDocument}
@@ -27,9 +28,8 @@ use Rattle.union.specs.TypeLists.{ListsOf}
 use Rattle.union.specs.Places.{starts_at, left_at}
 use Rattle.reducing.specs.PairsListed.{BothListed}
 use Rattle.results.specs.declared.plan.Kind.{Kind}
-use Rattle.steps.specs.declared.widen.Made.{Made}
 use Rattle.results.specs.PlanKind.{kind_of}
-use Rattle.steps.specs.Widened.{Widens, UnionReduced}
+use Rattle.steps.specs.Widened.{UnionReduced}
 use Rattle.steps.proofs.WidenLaws.{none_derived}
 
 pub seen_viewed : {old add : List ℕ} {g h : Table} {union : Union} → UnionSeen old add g h union → Viewed old add union.rules
@@ -38,12 +38,12 @@ seen_viewed {old} {add} {g} {h} s = record { table = unite large g h; views = s.
 pub listed_both : {of : ℕ → List ℕ} {lists : TypeLists} → ListsOf of lists → BothListed lists
 listed_both l = record { old = l.old_listed; added = l.added_listed }
 
-module _ (l : SizeLimits) (within : Within l) {old add index addition : List ℕ} {g h : Table} (p : Held (limits_of l) old index g)
+module _ (l : SizeLimits) {old add : List ℕ} {index addition : TableIndex} {g h : Table} (p : Held (limits_of l) old index g)
     (q : Held (limits_of l) add addition h) where
   pub none_started : (kind : Kind) (words : List ℕ) {starts : List ℕ} {empty : Bool} → set_of_eight_at words starts_at ≡ is_start (unite large g h)
-      → starts ≡ words_at words starts_at 8 → Empties starts empty → empty ≡ true → widen_by_table (limits_of l) (kind_of kind) g h ≡ refused NoDocument
+      → starts ≡ words_at words starts_at 8 → Empties starts empty → empty ≡ true → widen_by_table (limits_of l) (kind_of kind) g h ≡ Err NoDocument
   none_started kind words are loaded told e =
-      none_derived l within g h p.within q.within (kind_of kind) (sym (ap (λ (w : List ℕ). member w 0) loaded ∙ are) ∙ told.none e)
+      none_derived l g h p.within q.within (kind_of kind) (sym (ap (λ (w : List ℕ). member w 0) loaded ∙ are) ∙ told.none e)
 
   pub reduced : {union : Union} {lists : TypeLists} {before after starts : List ℕ} {empty : Bool} → UnionSeen old add g h union
       → ListsOf (fruitful_of (unite large g h)) lists
@@ -60,8 +60,3 @@ module _ (l : SizeLimits) (within : Within l) {old add index addition : List ℕ
         left_are = left;
         some_start = (k, sym (ap (λ (test : ℕ → Bool). test k) (ap (λ (w : List ℕ). member w 0) loaded ∙ are)) ∙ has);
       }
-
--- the answer for the kind that is meant
-pub for_kind : (lim : Limits) (g h : Table) (before after : List ℕ) (r : Made) (k l : Kind) → k ≡ l → Widens lim (kind_of l) g h before after r
-    → Widens lim (kind_of k) g h before after r
-for_kind lim g h before after r k l e w = subst (λ (x : Kind). Widens lim (kind_of x) g h before after r) (sym e) w

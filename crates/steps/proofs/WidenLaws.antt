@@ -14,11 +14,11 @@ use borrow.Author.Tests.{eq-eqb, not-true}
 use lib.ListN.{length}
 use Rattle.grammar.specs.Lists.{is_in, numbers_below}
 use Rattle.grammar.specs.Limits.{Limits, large}
-use Rattle.grammar.specs.LimitSets.{limits_of, Within}
+use Rattle.grammar.specs.LimitSets.{limits_of}
 use Rattle.grammar.specs.declared.SizeLimits.{SizeLimits}
 use Rattle.grammar.specs.Table.{Rule, Table}
 use Rattle.grammar.specs.Kinds.{Kind}
-use Rattle.grammar.specs.Outcome.{refused}
+use Rattle.std.specs.Prelude.{Err, Ok, Result}
 use Rattle.grammar.specs.ReadTable.{is_empty}
 use Rattle.grammar.specs.WithinLimits.{TableWithin}
 use Rattle.grammar.specs.WriteTable.{table_bytes}
@@ -30,6 +30,7 @@ use Rattle.grammar.specs.UsedLabels.{with_used_labels}
 use Rattle.grammar.specs.Tidy.{tidy_table}
 use Rattle.grammar.specs.Widen.{form, reduced_union, of_size, widen_by_table}
 use Rattle.grammar.specs.declared.Refusal.TheVariants.{ResultTooLarge, NoDocument}
+use Rattle.grammar.specs.declared.TooLarge.{TooLarge}
 use Rattle.theory.specs.Conditions.{all_letters}
 use Rattle.theory.proofs.Lists.BoolLaws.{or_left}
 use Rattle.theory.proofs.Lists.ListLaws.{mem_some, in_mem, numbers_below_lem}
@@ -39,13 +40,11 @@ use Rattle.theory.proofs.Tables.RoomierLimits.{within_large}
 use Rattle.theory.proofs.Tables.TableConditions.{within_below}
 use Rattle.sets.specs.Sets.{nothing}
 use Rattle.union.specs.PairNumbers.{is_start}
-use Rattle.writer.specs.declared.writing.Drafted.{Drafted}
-use Rattle.writer.specs.declared.writing.Drafted.TheVariants.{Length as Upto, TooLarge as Over}
 use Rattle.writer.specs.Tables.{TablePut}
 use Rattle.writer.proofs.TableSize.{size_over, size_fits, content_over, bytes_over, all_fit}
-use Rattle.forms.specs.SetForms.{rule_by_set, pairs_within}
+use Rattle.forms.specs.SetForms.{rule_by_set, pairs_within, sets_of, table_of}
 use Rattle.forms.proofs.UnionFit.{UnionFit, union_fit}
-use Rattle.forms.proofs.WidenedBySets.{sets_of, table_of, table_of_kind, rules_of_kind, rule_count, too_many_sets}
+use Rattle.forms.proofs.WidenedBySets.{table_of_kind, rules_of_kind, rule_count, too_many_sets}
 use Rattle.steps.specs.Widened.{made_of, Widens}
 
 -- a list that has nothing
@@ -59,7 +58,7 @@ nothing_in (x ∷ xs) e =
     let y : ◌≡◌ {A = ℕ} 0 1 = cc in
     absurd (omega arith)
 
-module _ (l : SizeLimits) (within : Within l) (g h : Table) (g_within : TableWithin (limits_of l) all_letters g)
+module _ (l : SizeLimits) (g h : Table) (g_within : TableWithin (limits_of l) all_letters g)
     (h_within : TableWithin (limits_of l) all_letters h) where
   abbrev lim : Limits
   lim = limits_of l
@@ -69,17 +68,17 @@ module _ (l : SizeLimits) (within : Within l) (g h : Table) (g_within : TableWit
   u = unite large g h
 
   fit : UnionFit lim u
-  fit = union_fit lim (within_large within) g h g_within h_within
+  fit = union_fit lim (within_large l) g h g_within h_within
 
   same_union : reduced_union lim g h ≡ reduce (normalise u)
   unfolding reduced_union
-  same_union = same_reduced_union lim large g h (within_large within).types (within_below lim all_letters g g_within)
+  same_union = same_reduced_union lim large g h (within_large l).types (within_below lim all_letters g g_within)
 
   starts_same : (reduced_union lim g h).starts ≡ (without_unfruitful (normalise u)).starts
   unfolding reduce without_unreached
   starts_same = ap (λ (t : Table). t.starts) same_union
 
-  pub none_derived : (kind : Kind) → is_start u ≡ nothing → widen_by_table lim kind g h ≡ refused NoDocument
+  pub none_derived : (kind : Kind) → is_start u ≡ nothing → widen_by_table lim kind g h ≡ Err NoDocument
   unfolding widen_by_table
   none_derived kind e = rw (starts_same ∙ nothing_in (without_unfruitful (normalise u)).starts e) refl
 
@@ -93,7 +92,7 @@ module _ (l : SizeLimits) (within : Within l) (g h : Table) (g_within : TableWit
         ∙ ap (λ (t : Table). of_size lim (tidy_table (with_used_labels (form lim kind t)))) same_union
         ∙ ap (of_size lim) (table_of_kind u fit kind)
 
-    pub too_many : l.rules < length (sets_of lim kind u) → widen_by_table lim kind g h ≡ refused ResultTooLarge
+    pub too_many : l.rules < length (sets_of lim kind u) → widen_by_table lim kind g h ≡ Err ResultTooLarge
     too_many few = sized ∙ size_over l (table_of lim kind u) (too_many_sets u fit kind few)
 
     abbrev rule : ℕ → Rule
@@ -112,10 +111,10 @@ module _ (l : SizeLimits) (within : Within l) (g h : Table) (g_within : TableWit
         let n = Memᴰ.of_map rule (numbers_below count) (subst (λ (rs : List Rule). Memᴰ r rs) (rules_of_kind u fit kind) m) in
         (n.0, (numbers_below_lem count n.0).0 n.1, n.2)
 
-    pub put_widens : count ≤ l.rules → (before after : List ℕ) (r : Drafted)
+    pub put_widens : count ≤ l.rules → (before after : List ℕ) (r : Result ℕ TooLarge)
         → TablePut before 0 rule count (table_bytes (table_of lim kind u)) after r → Widens lim kind g h before after (made_of r)
     unfolding Widens made_of
-    put_widens few before after (Upto n) (put, small, fits) =
+    put_widens few before after (Ok n) (put, small, fits) =
         let z : 0 + length (table_bytes (table_of lim kind u)) ≡ length (table_bytes (table_of lim kind u)) = omega arith in
         let long : n ≡ length (table_bytes (table_of lim kind u)) = put.next_is ∙ z in
         let many = rule_count u fit kind in
@@ -133,5 +132,5 @@ module _ (l : SizeLimits) (within : Within l) (g h : Table) (g_within : TableWit
           small = small;
           bytes = put.is;
         }
-    put_widens few before after Over (inl x) = sized ∙ size_over l (table_of lim kind u) (content_over l (table_of lim kind u) (rule_there x.0 x.1) x.2)
-    put_widens few before after Over (inr x) = sized ∙ size_over l (table_of lim kind u) (bytes_over l (table_of lim kind u) (omega arith))
+    put_widens few before after (Err over) (inl x) = sized ∙ size_over l (table_of lim kind u) (content_over l (table_of lim kind u) (rule_there x.0 x.1) x.2)
+    put_widens few before after (Err over) (inr x) = sized ∙ size_over l (table_of lim kind u) (bytes_over l (table_of lim kind u) (omega arith))

@@ -5,11 +5,8 @@ ghost use Rattle.union.specs.Places.{starts_at, start_types_at};
 ghost use Rattle.union.specs.Rounds.{puts};
 ghost use Rattle.union.specs.View.{ViewSized, label_in};
 
-use basis::numbers::wide;
 use forms::label_sets::Numbers;
-use sets::eight::Set8;
-use sets::words::{load_eight, store_eight};
-use union::fruitful::put_if;
+use sets::set::Set8;
 use union::places::{START_TYPES, STARTS};
 use union::united::United;
 
@@ -20,19 +17,15 @@ pub fn start_numbers(v: United, numbers: Numbers, words: &mut [u32])
         ≡ puts (set_of_eight_at words.old starts_at) (λ p. get_or numbers.of (label_in v p) 0) nothing v.rules)
         × KeptAround start_types_at 8 words.old words.new }
 {
-    let starts = load_eight(words, STARTS);
-    let labels = v.labels;
-    let of = numbers.of;
-    let rules = v.rules;
+    let starts = Set8::load(words, STARTS);
     let mut set = Set8::empty();
-    let mut p: usize = 0;
-    while p < rules {
-        let label = wide(labels[p]);
-        let more = put_if(starts.has(p), set, wide(of[label]));
-        set = more;
-        p += 1;
+    for p in 0..v.rules {
+        if starts.has(p) {
+            let label = usize::from(v.labels[p]);
+            set = set.with(usize::from(numbers.of[label]));
+        }
     }
-    store_eight(words, START_TYPES, set);
+    set.store(words, START_TYPES);
 }
 
 // Single-type: the numbers of the first sets.
@@ -42,11 +35,8 @@ pub fn first_numbers(n: usize, words: &mut [u32])
         × KeptAround start_types_at 8 words.old words.new }
 {
     let mut set = Set8::empty();
-    let mut t: usize = 0;
-    while t < n {
-        let more = put_if(true, set, t);
-        set = more;
-        t += 1;
+    for t in 0..n {
+        set = set.with(t);
     }
-    store_eight(words, START_TYPES, set);
+    set.store(words, START_TYPES);
 }

@@ -20,7 +20,7 @@ use Rattle.theory.specs.Alternatives.{has_alts, all_have_alts, one_has_alts, som
 use Rattle.theory.proofs.Lists.ListLaws.{eqb_decides}
 use Rattle.theory.proofs.Lists.DistinctLaws.{distinct_left}
 use Rattle.sets.specs.Sets.{member, put_at}
-use Rattle.sets.specs.declared.four.Set4.{Set4}
+use Rattle.sets.specs.declared.set.Set.{Set}
 use Rattle.reader.specs.ExprAt.{◌up_to◌, placed, expr_at, exprs_at}
 use Rattle.reader.proofs.ExprLaws.{
   placed_from,
@@ -236,7 +236,7 @@ listed_below types bound from pairs h k p m =
     part_below pairs bound h.below (get_or from k 0) (get_or from (k + 1) 0 - get_or from k 0) p m
 
 -- the numbers of a type: those of one that was seen are there already
-module _ (from pairs list : List ℕ) (count k first end next : ℕ) (seen : Set4) (small : k < 128) (lists : Listed 128 256 from pairs)
+module _ (from pairs list : List ℕ) (count k first end next : ℕ) (seen : Set 4) (small : k < 128) (lists : Listed 128 256 from pairs)
     (once : Once 256 list count) (known : SeenListed seen.words (list_of_type from pairs) (take count list)) (f : first ≡ get_or from k 0)
     (g : end ≡ get_or from (k + 1) 0) where
   some_there : ltb first end ≡ some_left (list_of_type from pairs) k
@@ -247,7 +247,7 @@ module _ (from pairs list : List ℕ) (count k first end next : ℕ) (seen : Set
       (record { has = ltb first end; count = count; next = next; seen = seen })
   type_again e = record { has = some_there; adds = seen_again once known k e; next = refl; known = known }
 
-  pub type_new : (list' : List ℕ) (more : ℕ) (after : Set4)
+  pub type_new : (list' : List ℕ) (more : ℕ) (after : Set 4)
       → Adds (take count list) (take (end - first) (drop first pairs)) list' more
       → after.words ≡ put_at seen.words 0 k
       → TypeMet (list_of_type from pairs) (take count list) k next list'
@@ -320,7 +320,7 @@ module _ (s : List ℕ) (at : ℕ) (from pairs list : List ℕ) (count : ℕ) wh
   abbrev numbers : List ℕ
   numbers = take count list
 
-  pub none_finds : (seen : Set4) → MetAsks s at from pairs list count → SeenListed seen.words left numbers → get_or s at 0 ≡ 0
+  pub none_finds : (seen : Set 4) → MetAsks s at from pairs list count → SeenListed seen.words left numbers → get_or s at 0 ≡ 0
       → MetFinds (list_of_type from pairs) (take count list) s at list (record { has = false; count = count; next = at + 1; seen = seen })
   none_finds seen a k e =
       record {
@@ -329,7 +329,7 @@ module _ (s : List ℕ) (at : ℕ) (from pairs list : List ℕ) (count : ℕ) wh
         known = k;
       }
 
-  pub empty_finds : (seen : Set4) → MetAsks s at from pairs list count → SeenListed seen.words left numbers → get_or s at 0 ≡ 1
+  pub empty_finds : (seen : Set 4) → MetAsks s at from pairs list count → SeenListed seen.words left numbers → get_or s at 0 ≡ 1
       → MetFinds (list_of_type from pairs) (take count list) s at list (record { has = true; count = count; next = at + 1; seen = seen })
   empty_finds seen a k e =
       record {
@@ -370,7 +370,7 @@ module _ (s : List ℕ) (at : ℕ) (from pairs list : List ℕ) (count : ℕ) wh
           known = row.known;
         }
 
-    sequence_finds_none : (seen : Set4) → SeenListed seen.words left numbers → get_or s at 0 ≡ 3 → r.all ≡ false
+    sequence_finds_none : (seen : Set 4) → SeenListed seen.words left numbers → get_or s at 0 ≡ 3 → r.all ≡ false
         → length list' ≡ length list
         → MetFinds (list_of_type from pairs) (take count list) s at list'
         (record { has = false; count = count; next = r.next; seen = seen })
@@ -392,7 +392,7 @@ module _ (s : List ℕ) (at : ℕ) (from pairs list : List ℕ) (count : ℕ) wh
           known = subst (λ (l : List ℕ). SeenListed seen.words left l) (sym kept) known;
         }
 
-    pub sequence_finds : (seen : Set4) → SeenListed seen.words left numbers → get_or s at 0 ≡ 3 → length list' ≡ length list
+    pub sequence_finds : (seen : Set 4) → SeenListed seen.words left numbers → get_or s at 0 ≡ 3 → length list' ≡ length list
         → MetFinds (list_of_type from pairs) (take count list) s at list' (sequence_met r count seen)
     sequence_finds seen known e same = go r.all refl
       where
@@ -437,7 +437,7 @@ module _ (s : List ℕ) (at : ℕ) (from pairs list : List ℕ) (count : ℕ) wh
           known = operand.known;
         }
 
-  pub no_row_finds : (n : ℕ) (seen : Set4) → MetRowAsks s at n from pairs list count → SeenListed seen.words left numbers → n ≡ 0
+  pub no_row_finds : (n : ℕ) (seen : Set 4) → MetRowAsks s at n from pairs list count → SeenListed seen.words left numbers → n ≡ 0
       → MetRowFinds (list_of_type from pairs) (take count list) s at n list
       (record { all = true; one = false; count = count; next = at; seen = seen })
   no_row_finds n seen a k e =

@@ -1,5 +1,5 @@
 -- Numbers at the front of a list, each once:
---   among_here, among_next   looking for a number, place by place
+--   among_any                looking for a number
 --   new_room                 a number below the bound that is not among them has room after them
 --   adds_old, adds_new       one number more, which is among them or not
 --   adds_none, adds_join     no numbers more; some, and then others
@@ -12,14 +12,16 @@ use mathlib.Core.Bool.{Bool, true, false, not, ◌||◌}
 use mathlib.Core.List.Memᴰ
 use mathlib.Core.List.{List, [], ◌∷◌, ◌++◌, append-nil, append_assoc, Memᴰ}
 use mathlib.Core.Logic.{⊎_elim}
-use mathlib.Core.Path.{◌≡◌, refl, sym, ◌∙◌, ap, subst}
+use mathlib.Core.Path.{◌≡◌, refl, sym, ◌∙◌, ap, ap₂, subst}
 use lib.ListN.{length, get_or, set, take, drop, length-set, length-append, length-drop}
 use lib.Seq.{take-suc, take-suc-set, take-take, take_at, length-take-le, get_or-drop}
 use lib.Dec.{eqb}
-use borrow.Author.Tests.{eqb-true, eq-eqb, ne_eqb}
-use Rattle.grammar.specs.Lists.{keep, distinct, is_in}
-use Rattle.theory.proofs.Lists.BoolLaws.{false_of, not_both, or_none}
-use Rattle.theory.proofs.Lists.ListLaws.{kept, distinct_was, in_mem, mem_in, in_append, taken_mem, eqb_decides, eqb_sym}
+use borrow.Author.Tests.{eqb-true, eq-eqb}
+use Rattle.std.proofs.lemmas.Bool.Decides.{nat_tests}
+use Rattle.std.specs.List.{list_any}
+use Rattle.grammar.specs.Lists.{any_pass, keep, distinct, is_in}
+use Rattle.theory.proofs.Lists.BoolLaws.{false_of, not_both}
+use Rattle.theory.proofs.Lists.ListLaws.{kept, distinct_was, in_mem, eqb_decides, eqb_sym}
 use Rattle.theory.proofs.Lists.DistinctLaws.{
   keep-distinct,
   distinct_again,
@@ -32,17 +34,14 @@ use Rattle.sets.specs.Sets.{size}
 use Rattle.sets.proofs.SizeLaws.{size_le, size-nothing, size-add}
 use Rattle.union.specs.Walks.{Once, Adds}
 
-module _ (p : ℕ) (l : List ℕ) (i : ℕ) where
-  pub among_here : (count : ℕ) → i < count → count ≤ length l → get_or l i 0 ≡ p → is_in p (take count l) ≡ true
-  among_here count h k e = mem_in (subst (λ (q : ℕ). Memᴰ q (take count l)) e (taken_mem l i count h (omega arith)))
+eqb_turn : (m n : ℕ) → eqb m n ≡ eqb n m
+eqb_turn m n = grind (arith, nat_tests)
 
-  pub among_next : i < length l → is_in p (take i l) ≡ false → (get_or l i 0 ≡ p → ⊥) → is_in p (take (i + 1) l) ≡ false
-  unfolding is_in
-  among_next h e d =
-      ap (λ (n : ℕ). is_in p (take n l)) (add-one i)
-      ∙ ap (is_in p) (take-suc l i 0 h)
-      ∙ in_append p (take i l) (get_or l i 0 ∷ [])
-      ∙ or_none (is_in p (take i l)) (is_in p (get_or l i 0 ∷ [])) e (or_none (eqb p (get_or l i 0)) false (ne_eqb p (get_or l i 0) (λ q. d (sym q))) refl)
+-- the search of std looks for a number as `is_in` does
+pub among_any : (p : ℕ) (l : List ℕ) → list_any (λ q. eqb q p) l ≡ is_in p l
+unfolding is_in any_pass
+among_any p [] = refl
+among_any p (q ∷ l) = ap₂ ◌||◌ (eqb_turn q p) (among_any p l)
 
 -- numbers that stand once, the first of them apart
 module _ (x : ℕ) (xs : List ℕ) (e : distinct eqb (x ∷ xs) ≡ x ∷ xs) where
@@ -144,19 +143,6 @@ adds_join numbers xs ys list list' count r a b =
           ∙ ap (distinct eqb) (append_assoc numbers xs ys);
       held = b.held;
     }
-
--- a part of numbers, one longer
-pub part_more : (numbers : List ℕ) (first i : ℕ) → first ≤ i → i < length numbers
-    → take (i + 1 - first) (drop first numbers) ≡ take (i - first) (drop first numbers) ++ (get_or numbers i 0 ∷ [])
-part_more numbers first i h k =
-    let l = length-drop first numbers in
-    let n : i + 1 - first ≡ suc (i - first) = omega arith in
-    let b : i - first < length (drop first numbers) = omega arith in
-    let p : first + (i - first) ≡ i = omega arith in
-    ap (λ (m : ℕ). take m (drop first numbers)) n
-    ∙ take-suc (drop first numbers) (i - first) 0 b
-    ∙ ap (λ (x : ℕ). take (i - first) (drop first numbers) ++ (x ∷ []))
-    (get_or-drop first numbers (i - first) 0 ∙ ap (λ (m : ℕ). get_or numbers m 0) p)
 
 -- a part of numbers below a bound
 pub part_below : (numbers : List ℕ) (bound : ℕ) → ((i : ℕ) → get_or numbers i 0 < bound) → (first n p : ℕ)

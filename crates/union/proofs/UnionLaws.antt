@@ -1,6 +1,7 @@
 -- The view of a union rule by rule: the place of a pair (`pair_here`, `pair_nowhere`), one rule more (`views_more`), no rules
 -- (`no_views`), the next rule of the old table (`old_next`) and of the addition (`new_next`), and the view of the whole
 -- (`views_same`, `union_rules`).
+use Rattle.reader.specs.declared.index.TableIndex.{TableIndex}
 use Prim.Native.Nat.{ℕ, ◌+◌, ◌≤◌, ◌<◌}
 use native.Mathlib.Omega.{arith}
 use native.Mathlib.Numerals.{add-one}
@@ -214,7 +215,7 @@ take_more xs i {x} e =
     ∙ ap (λ y. take i xs ++ (y ∷ [])) (at_else xs i x e)
 
 -- the next rule of the old table
-module _ {old add : List ℕ} {v : United} {index : List ℕ} {g : Table} (t : Held large old index g) (i : ℕ)
+module _ {old add : List ℕ} {v : United} {index : TableIndex} {g : Table} (t : Held large old index g) (i : ℕ)
     (h : i < rule_count index) (few : v.old_rules ≡ rule_count index) (at : v.rules ≡ i) where
   pub old_next : (ty label from to : ℕ) → ty ≡ rule_type index i → label ≡ rule_label index i → from ≡ content_from index i
       → to ≡ content_to index i
@@ -239,7 +240,7 @@ module _ {old add : List ℕ} {v : United} {index : List ℕ} {g : Table} (t : H
       )
 
 -- the next rule of the addition
-module _ {old olds add adds : List ℕ} {v : United} {fresh : Names} {g h : Table} (a : AddingTo old olds add adds fresh g h) (i : ℕ)
+module _ {old : List ℕ} {olds : TableIndex} {add : List ℕ} {adds : TableIndex} {v : United} {fresh : Names} {g h : Table} (a : AddingTo old olds add adds fresh g h) (i : ℕ)
     (below : i < rule_count adds) (at : v.rules ≡ v.old_rules + i) where
   pub new_next : (ty l label from to : ℕ) → ty ≡ 128 + rule_type adds i → l ≡ rule_label adds i
       → label ≡ place same_name (get_or h.labels l []) (united_names g.labels h.labels)

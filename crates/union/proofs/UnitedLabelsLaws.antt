@@ -1,5 +1,6 @@
 -- Names by where they stand: adding one (`names_more`), and the number of a label of the addition among the names of the union
 -- (`label_old`, `label_new`, `label_below`).
+use Rattle.reader.specs.declared.index.TableIndex.{TableIndex}
 use Prim.Native.Nat.{ℕ, suc, ◌+◌, ◌≤◌, ◌<◌}
 use native.Mathlib.Omega.{arith}
 use native.Mathlib.Numerals.{add-one}
@@ -19,10 +20,18 @@ use Rattle.theory.proofs.Trees.NameLaws.{name_refl}
 use Rattle.theory.proofs.Lists.ListLaws.{at_else, at_mem, at_below, any_of, keep_yes, keep_no, keep_mem}
 use Rattle.theory.proofs.Lists.PlaceLaws.{place_some, place_none, place_front, place_found}
 use Rattle.theory.proofs.Lists.DistinctLaws.{keep_append}
-use Rattle.reader.specs.TableIndex.{label_from, label_to, label_count, part, BytesStand, Indexes}
+use Rattle.reader.specs.TableIndex.{label_from, label_to, label_count, part, BytesStand, Indexes, TableIndexed}
 use Rattle.reader.proofs.TableIndexLaws.{at_end, put, stands_so, label_at}
 use Rattle.union.specs.declared.labels.Names.{Names}
 use Rattle.union.specs.UnitedLabels.{NamesHeld, names_if, new_names, united_names}
+
+-- the name of each label of a table stands within its bytes
+module _ {s : List ℕ} {index : TableIndex} (x : TableIndexed s index) (i : ℕ) (h : i < label_count index) where
+  pub label_order : label_from index i ≤ label_to index i
+  label_order = (label_at x.indexes i h).2.inside.order
+
+  pub label_within : label_to index i ≤ length s
+  label_within = (label_at x.indexes i h).2.inside.within
 
 -- the place in joined lists
 module _ {A : Type 0} (same : A → A → Bool) (x : A) where
@@ -144,7 +153,7 @@ names_count true names from to = omega arith
 names_count false names from to = omega arith
 
 -- a label of the addition: where it stands, and its name's place among the old
-module _ {old olds add adds : List ℕ} {g h : Table} (x : Indexes old olds g) (y : Indexes add adds h) (label : ℕ)
+module _ {old : List ℕ} {olds : TableIndex} {add : List ℕ} {adds : TableIndex} {g h : Table} (x : Indexes old olds g) (y : Indexes add adds h) (label : ℕ)
     (below : label < label_count adds) (from to count p : ℕ) (begins : from ≡ label_from adds label) (ends : to ≡ label_to adds label)
     (counted : count ≡ label_count olds) (placed : p ≡ place same_name (part add from to) g.labels) where
   abbrev news : List Name

@@ -1,13 +1,13 @@
 -- Laws of the united view: the rule of a number (`seen`), its content (`content_is`), that the view's numbers are small
 -- (`views_sized`), where a rule of the table stands (`rule_seen`), a content in its source (`source_so`, `source_there`,
 -- `source_has`, `addition_has`), and its tag (`tag_so`).
-use Prim.Native.Nat.{ℕ, ◌+◌, ◌-◌, ◌/◌, ◌%◌, ◌<◌}
+use Prim.Native.Nat.{◌≤◌, ℕ, ◌+◌, ◌-◌, ◌/◌, ◌%◌, ◌<◌}
 use native.Mathlib.Omega.{arith}
 use mathlib.Core.Bool.{Bool}
 use mathlib.Core.List.{List, Memᴰ}
 use mathlib.Core.Option.{some as just}
 use mathlib.Core.Path.{◌≡◌, sym, ◌∙◌, ap, ap₂, subst, fun_ext}
-use lib.ListN.{get_or, get_elem?, take, drop}
+use lib.ListN.{length, get_or, get_elem?, take, drop}
 use Rattle.grammar.specs.Lists.{place}
 use Rattle.grammar.specs.Limits.{large}
 use Rattle.grammar.specs.Content.{Content}
@@ -26,7 +26,7 @@ use Rattle.reader.specs.ExprAt.{◌up_to◌, expr_at}
 use Rattle.union.specs.declared.united.United.{United}
 use Rattle.reader.specs.ContentAt.{ContentAt}
 use Rattle.union.specs.Walks.{has_at}
-use Rattle.union.specs.View.{SourceContent, shifted_content, RuleSeen, Views, ViewSized}
+use Rattle.union.specs.View.{SourceContent, from_in, to_in, shifted_content, RuleSeen, Views, ViewSized, Viewed}
 use Rattle.reader.proofs.ContentAtLaws.{placed_of}
 use Rattle.union.specs.Rounds.{content_of_rule}
 
@@ -63,6 +63,20 @@ module _ {old add : List ℕ} {v : United} {u : Table} (x : Views old add v u) w
             let s = seen i h in
             subst (λ (n : ℕ). n < 256) (sym s.2.first) (pair_below s.0 (at_mem u.rules i s.1));
       }
+
+-- the content of a rule stands within the bytes of its own table
+module _ {old add : List ℕ} {v : United} (w : Viewed old add v) (i : ℕ) (h : i < v.rules) where
+  pub old_order : i < v.old_rules → from_in v i ≤ to_in v i
+  old_order o = ((seen w.views i h).2.in_old o).order
+
+  pub old_within : i < v.old_rules → to_in v i ≤ length old
+  old_within o = ((seen w.views i h).2.in_old o).within
+
+  pub added_order : v.old_rules ≤ i → from_in v i ≤ to_in v i
+  added_order o = ((seen w.views i h).2.in_addition o).stands.order
+
+  pub added_within : v.old_rules ≤ i → to_in v i ≤ length add
+  added_within o = ((seen w.views i h).2.in_addition o).stands.within
 
 -- a content in its source
 pub source_so : {s : List ℕ} {from from' to to' : ℕ} {c : Content} → from ≡ from' → to ≡ to' → SourceContent s from to c

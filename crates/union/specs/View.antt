@@ -1,5 +1,6 @@
 -- The united view of two tables: what a program keeps of their union. Each rule of the union stands by its number, old rules first;
 -- its content stands in the bytes of its own table, with that table's own types, and behind its tag, which tells whether it is for text.
+use Rattle.reader.specs.declared.index.TableIndex.{TableIndex}
 use Rattle.std.specs.Prelude.{ℕ, ◌+◌, ◌-◌, ◌≤◌, ◌<◌, true, List, [], ◌≡◌, length, get_or, take, drop}
 use Rattle.std.proofs.Math.Option.{some as just}
 use Rattle.std.proofs.Math.ListN.{get_elem?}
@@ -105,12 +106,12 @@ pub record Grown (v more : United) : Type 0 where
   pub old : more.old_rules ≡ v.old_rules
 
 -- the old table, the addition, and where its new labels stand, as its rules are put down
-pub record AddingTo (old olds add adds : List ℕ) (fresh : Names) (g h : Table) : Type 0 where
+pub record AddingTo (old : List ℕ) (olds : TableIndex) (add : List ℕ) (adds : TableIndex) (fresh : Names) (g h : Table) : Type 0 where
   pub old_table : Indexes old olds g
   pub addition : Held large add adds h
   pub new_names : NamesHeld add fresh (new_names g.labels h.labels)
 
-pub record Adding (old olds add adds : List ℕ) (fresh : Names) : Type 0 where
+pub record Adding (old : List ℕ) (olds : TableIndex) (add : List ℕ) (adds : TableIndex) (fresh : Names) : Type 0 where
   pub first : Table
   pub second : Table
   pub so : AddingTo old olds add adds fresh first second

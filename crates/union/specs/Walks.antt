@@ -6,7 +6,7 @@ use Rattle.grammar.specs.Lists.{distinct}
 use Rattle.grammar.specs.Limits.{large}
 use Rattle.theory.specs.Alternatives.{has_alts, all_have_alts, one_has_alts, some_left, pairs_met, pairs_met_all}
 use Rattle.sets.specs.Sets.{member}
-use Rattle.sets.specs.declared.four.Set4.{Set4}
+use Rattle.sets.specs.declared.set.Set.{Set}
 use Rattle.reader.specs.ExprAt.{Placed, ◌up_to◌, placed, expr_at, exprs_at}
 use Rattle.reader.specs.ContentAt.{ContentAt, ContentsAt}
 use Rattle.union.specs.declared.met.MetOne.{MetOne}
@@ -97,7 +97,7 @@ pub record MetRowFinds (left : ℕ → List ℕ) (numbers s : List ℕ) (at n : 
 
 -- the answer for a sequence, from that for its operands: where one has no alternatives, the count and the types seen are those
 -- before them
-abbrev pub sequence_met : MetRow → (count : ℕ) → Set4 → MetOne
+abbrev pub sequence_met : MetRow → (count : ℕ) → Set 4 → MetOne
 sequence_met row count seen =
     cond row.all
     (record { has = true; count = row.count; next = row.next; seen = row.seen })

@@ -13,9 +13,7 @@ ghost use Rattle.union.specs.Rounds.{put_if, content_of_rule, types_with, after_
 use crate::places::KNOWN;
 use crate::productive::content_has;
 use crate::united::United;
-use basis::numbers::{wide, wider};
-use sets::eight::Set8;
-use sets::words::store_eight;
+use sets::set::Set8;
 
 // Whether the content of a rule has alternatives, over a set of types of the union.
 pub fn rule_has(old: &[u8], add: &[u8], v: United, i: usize, types: Set8) -> bool
@@ -23,17 +21,12 @@ pub fn rule_has(old: &[u8], add: &[u8], v: United, i: usize, types: Set8) -> boo
     ensures { (u : Table) → Views old.now add.now v u
         → result ≡ has_alts (member types.words 0) (content_of_rule u i) }
 {
-    let content_from = v.content_from;
-    let content_to = v.content_to;
-    let from = wider(content_from[i]);
-    let to = wider(content_to[i]);
-    let words = types.words;
+    let from = usize::from(v.content_from[i]);
+    let to = usize::from(v.content_to[i]);
     if i < v.old_rules {
-        let found = content_has(&old[from..to], 0, &words, 0);
-        return found.has;
+        return content_has(&old[from..to], 0, &types.words, 0).has;
     }
-    let found = content_has(&add[from..to], 0, &words, 4);
-    found.has
+    content_has(&add[from..to], 0, &types.words, 4).has
 }
 
 // A set with one number more, or as it is.
@@ -52,16 +45,10 @@ fn types_with(v: United, known: Set8) -> Set8
     requires { (ViewSized v) × (length known.words ≡ 8) }
     ensures { (member result.words 0 ≡ types_with v (member known.words 0)) × (length result.words ≡ 8) }
 {
-    let firsts = v.firsts;
-    let types = v.types;
-    let rules = v.rules;
     let mut set = Set8::empty();
-    let mut i: usize = 0;
-    while i < rules {
-        let first = wide(firsts[i]);
-        let more = put_if(known.has(first), set, wide(types[i]));
-        set = more;
-        i += 1;
+    for i in 0..v.rules {
+        let first = usize::from(v.firsts[i]);
+        set = put_if(known.has(first), set, usize::from(v.types[i]));
     }
     set
 }
@@ -73,14 +60,13 @@ fn round(old: &[u8], add: &[u8], v: United, known: Set8) -> Set8
         → member result.words 0 ≡ after_round u v (member known.words 0)) × (length result.words ≡ 8) }
 {
     let types = types_with(v, known);
-    let firsts = v.firsts;
-    let rules = v.rules;
     let mut next = known;
-    let mut i: usize = 0;
-    while i < rules {
-        let more = put_if(rule_has(old, add, v, i, types), next, wide(firsts[i]));
-        next = more;
-        i += 1;
+    for i in 0..v.rules {
+        next = put_if(
+            rule_has(old, add, v, i, types),
+            next,
+            usize::from(v.firsts[i]),
+        );
     }
     next
 }
@@ -92,6 +78,7 @@ pub fn fruitful_pairs(old: &[u8], add: &[u8], v: United, words: &mut [u32])
         → set_of_eight_at words.new known_at ≡ (λ p. is_in p (fruitful (normalise u))) }
 {
     let mut known = Set8::empty();
+    // The rounds follow from each other, so no count stands at the outset: the loop yields the set of the last by `break`.
     let found = loop {
         let next = round(old, add, v, known);
         if known.equal(next) {
@@ -99,5 +86,5 @@ pub fn fruitful_pairs(old: &[u8], add: &[u8], v: United, words: &mut [u32])
         }
         known = next;
     };
-    store_eight(words, KNOWN, found);
+    found.store(words, KNOWN);
 }

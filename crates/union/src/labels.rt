@@ -7,8 +7,7 @@ ghost use Rattle.reader.specs.TableIndex.{label_count, Indexes, TableIndexed};
 ghost use Rattle.union.specs.UnitedLabels.{NamesHeld, names_if, new_names, united_names};
 ghost use Rattle.union.specs.View.{Adding, AddingTo};
 
-use basis::numbers::wider;
-use reader::index::{label_count, label_from, label_to};
+use reader::index::TableIndex;
 use reader::labels::name_place;
 
 // Where names stand in the bytes of a table, in order: where each begins, and 128 numbers later where it ends.
@@ -19,43 +18,38 @@ pub struct Names {
 }
 
 // Names with one more, or as they are.
+#[tactic(auto, unfolding(crate::specs::UnitedLabels::names_if))]
 fn with_name(names: Names, from: u16, to: u16, new: bool) -> Names
     requires { names.count < 128 }
     ensures { result ≡ names_if new names from to }
 {
+    let mut more = names;
     if new {
-        let n = names.count;
-        let mut more = names;
-        more.places[n] = from;
-        more.places[128 + n] = to;
-        more.count = n + 1;
-        return more;
+        more.places[names.count] = from;
+        more.places[128 + names.count] = to;
+        more.count += 1;
     }
-    names
+    more
 }
 
 // The addition's names that are not among the old. The labels of each table are lent as its index.
-pub fn new_names(old: &[u8], olds: &[u16; 899], add: &[u8], adds: &[u16; 899]) -> Names
+#[tactic(auto, using(crate::proofs::UnitedLabelsLaws::label_order, crate::proofs::UnitedLabelsLaws::label_within))]
+pub fn new_names(old: &[u8], olds: &TableIndex, add: &[u8], adds: &TableIndex) -> Names
     requires { (TableIndexed old.now olds.now) × (TableIndexed add.now adds.now) }
     ensures { (g h : Table) → Indexes old.now olds.now g → Indexes add.now adds.now h
         → NamesHeld add.now result (new_names g.labels h.labels) }
 {
-    let old_count = label_count(olds);
-    let count = label_count(adds);
+    let old_count = olds.label_count();
     let mut fresh = Names {
         places: [0; 256],
         count: 0,
     };
-    let mut i: usize = 0;
-    while i < count {
-        let from = adds[i];
-        let to = adds[128 + i];
-        let begin = wider(from);
-        let end = wider(to);
-        let p = name_place(&add[begin..end], old, olds, old_count);
-        let more = with_name(fresh, from, to, old_count <= p);
-        fresh = more;
-        i += 1;
+    for i in 0..adds.label_count() {
+        let from = adds.names[i];
+        let to = adds.names[128 + i];
+        let name = &add[usize::from(from)..usize::from(to)];
+        let p = name_place(name, old, &olds.names, old_count);
+        fresh = with_name(fresh, from, to, old_count <= p);
     }
     fresh
 }
@@ -63,9 +57,9 @@ pub fn new_names(old: &[u8], olds: &[u16; 899], add: &[u8], adds: &[u16; 899]) -
 // The number that a label of the addition has in the union.
 pub fn united_label(
     old: &[u8],
-    olds: &[u16; 899],
+    olds: &TableIndex,
     add: &[u8],
-    adds: &[u16; 899],
+    adds: &TableIndex,
     fresh: Names,
     label: usize,
 ) -> usize
@@ -73,14 +67,11 @@ pub fn united_label(
     ensures { ((g h : Table) → AddingTo old.now olds.now add.now adds.now fresh g h
         → result ≡ place same_name (get_or h.labels label []) (united_names g.labels h.labels)) × (result < 256) }
 {
-    let count = label_count(olds);
-    let from = label_from(adds, label);
-    let to = label_to(adds, label);
-    let p = name_place(&add[from..to], old, olds, count);
+    let count = olds.label_count();
+    let name = &add[adds.label_from(label)..adds.label_to(label)];
+    let p = name_place(name, old, &olds.names, count);
     if p < count {
         return p;
     }
-    let places = fresh.places;
-    let q = name_place(&add[from..to], add, &places, fresh.count);
-    count + q
+    count + name_place(name, add, &fresh.places, fresh.count)
 }

@@ -5,10 +5,8 @@ ghost use Rattle.grammar.specs.Lists.{is_in};
 ghost use Rattle.union.specs.Walks.{list_of_type, Listed, Once, Adds, PartOfNumbers, SeenListed};
 ghost use Rattle.union.specs.Walks.{TypeMet, MetAsks, MetFinds, MetRowAsks, MetRowFinds, sequence_met};
 
-use crate::productive::{both, either};
-use basis::numbers::{wide, wider};
 use reader::operators::{CHOICE, EMPTY, NONE, ONE_OR_MORE, SEQUENCE, TYPE};
-use sets::four::Set4;
+use sets::set::Set4;
 
 // Whether a content has alternatives, how many numbers stand in the list after it, the place after it, and types whose pairs are
 // all in the list.
@@ -35,14 +33,7 @@ fn among(list: &[u8], count: usize, number: u8) -> bool
     requires { count ≤ length list.now }
     ensures { result ≡ is_in number (take count list.now) }
 {
-    let mut i: usize = 0;
-    while i < count {
-        if list[i] == number {
-            return true;
-        }
-        i += 1;
-    }
-    false
+    list[..count].contains(&number)
 }
 
 // Adds a number after the others, unless it is among them.
@@ -63,12 +54,10 @@ fn append_part(list: &mut [u8], count: usize, numbers: &[u8], first: usize, end:
     ensures { Adds (take count list.old) (take (end - first) (drop first numbers.now))
         list.new result }
 {
+    let part = &numbers[first..end];
     let mut more = count;
-    let mut i = first;
-    while i < end {
-        let longer = append(list, more, numbers[i]);
-        more = longer;
-        i += 1;
+    for number in part {
+        more = append(list, more, *number);
     }
     more
 }
@@ -88,8 +77,8 @@ fn met_type(
     ensures { TypeMet (list_of_type from.now pairs.now) (take count list.old) k next
         list.new result }
 {
-    let first = wider(from[k]);
-    let end = wider(from[k + 1]);
+    let first = usize::from(from[k]);
+    let end = usize::from(from[k + 1]);
     if seen.has(k) {
         return MetOne {
             has: first < end,
@@ -124,12 +113,11 @@ fn met_sequence(row: MetRow, count: usize, seen: Set4) -> MetOne
     ensures { result ≡ sequence_met row count seen }
 {
     if row.all {
-        let more = row.seen;
         return MetOne {
             has: true,
             count: row.count,
             next: row.next,
-            seen: more,
+            seen: row.seen,
         };
     }
     met_none(false, count, row.next, seen)
@@ -152,39 +140,35 @@ pub fn met(
     ensures { MetFinds (list_of_type from.now pairs.now) (take count list.old)
         content.now at list.new result }
 {
-    let operator = wide(content[at]);
+    let operator = usize::from(content[at]);
     match operator {
         NONE => met_none(false, count, at + 1, seen),
         EMPTY => met_none(true, count, at + 1, seen),
         TYPE => {
-            let k = wide(content[at + 1]);
+            let k = usize::from(content[at + 1]);
             met_type(k, from, pairs, list, count, at + 2, seen)
         }
         SEQUENCE => {
-            let n = wide(content[at + 1]);
+            let n = usize::from(content[at + 1]);
             let row = met_row(content, at + 2, n, from, pairs, list, count, seen);
             met_sequence(row, count, seen)
         }
         CHOICE => {
-            let n = wide(content[at + 1]);
+            let n = usize::from(content[at + 1]);
             let row = met_row(content, at + 2, n, from, pairs, list, count, seen);
-            let more = row.seen;
             MetOne {
                 has: row.one,
                 count: row.count,
                 next: row.next,
-                seen: more,
+                seen: row.seen,
             }
         }
         ONE_OR_MORE => met(content, at + 1, from, pairs, list, count, seen),
         _ => {
             let operand = met(content, at + 1, from, pairs, list, count, seen);
-            let more = operand.seen;
             MetOne {
                 has: true,
-                count: operand.count,
-                next: operand.next,
-                seen: more,
+                ..operand
             }
         }
     }
@@ -217,7 +201,6 @@ fn met_row(
         };
     }
     let first = met(content, at, from, pairs, list, count, seen);
-    let more = first.seen;
     let others = met_row(
         content,
         first.next,
@@ -226,14 +209,11 @@ fn met_row(
         pairs,
         list,
         first.count,
-        more,
+        first.seen,
     );
-    let most = others.seen;
     MetRow {
-        all: both(first.has, others.all),
-        one: either(first.has, others.one),
-        count: others.count,
-        next: others.next,
-        seen: most,
+        all: first.has && others.all,
+        one: first.has || others.one,
+        ..others
     }
 }

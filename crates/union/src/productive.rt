@@ -8,7 +8,6 @@ ghost use Rattle.reader.specs.ExprAt.{◌up_to◌};
 ghost use Rattle.reader.specs.ContentAt.{ContentAt, ContentsAt};
 ghost use Rattle.union.specs.Walks.{has_at, has_row_at};
 
-use basis::numbers::wide;
 use reader::operators::{CHOICE, EMPTY, NONE, ONE_OR_MORE, SEQUENCE, TYPE};
 use sets::words::has;
 
@@ -27,24 +26,6 @@ pub struct ProductiveRow {
     pub next: usize,
 }
 
-pub fn both(a: bool, b: bool) -> bool
-    ensures { result ≡ (a && b) }
-{
-    if a {
-        return b;
-    }
-    false
-}
-
-pub fn either(a: bool, b: bool) -> bool
-    ensures { result ≡ (a || b) }
-{
-    if a {
-        return true;
-    }
-    b
-}
-
 // Whether the content at a place, a type, has alternatives: whether the type gives something.
 fn type_has(content: &[u8], at: usize, types: &[u32], base: usize) -> Productive
     requires { (at + 1 < length content.now) × (get_or content.now (at + 1) 0 < 128) × (base + 4 ≤ length types.now) }
@@ -53,9 +34,8 @@ fn type_has(content: &[u8], at: usize, types: &[u32], base: usize) -> Productive
       next = at + 2;
     } }
 {
-    let k = wide(content[at + 1]);
     Productive {
-        has: has(types, base, k),
+        has: has(types, base, usize::from(content[at + 1])),
         next: at + 2,
     }
 }
@@ -66,7 +46,7 @@ pub fn content_has(content: &[u8], at: usize, types: &[u32], base: usize) -> Pro
     requires { (ContentAt large content.now at) × (base + 4 ≤ length types.now) }
     ensures { has_at (member types.now base) content.now at ≡ just (result.has up_to result.next) }
 {
-    let operator = wide(content[at]);
+    let operator = usize::from(content[at]);
     match operator {
         NONE => Productive {
             has: false,
@@ -78,7 +58,7 @@ pub fn content_has(content: &[u8], at: usize, types: &[u32], base: usize) -> Pro
         },
         TYPE => type_has(content, at, types, base),
         SEQUENCE => {
-            let n = wide(content[at + 1]);
+            let n = usize::from(content[at + 1]);
             let row = row_has(content, at + 2, n, types, base);
             Productive {
                 has: row.all,
@@ -86,7 +66,7 @@ pub fn content_has(content: &[u8], at: usize, types: &[u32], base: usize) -> Pro
             }
         }
         CHOICE => {
-            let n = wide(content[at + 1]);
+            let n = usize::from(content[at + 1]);
             let row = row_has(content, at + 2, n, types, base);
             Productive {
                 has: row.one,
@@ -98,7 +78,7 @@ pub fn content_has(content: &[u8], at: usize, types: &[u32], base: usize) -> Pro
             let operand = content_has(content, at + 1, types, base);
             Productive {
                 has: true,
-                next: operand.next,
+                ..operand
             }
         }
     }
@@ -120,8 +100,8 @@ pub fn row_has(content: &[u8], at: usize, n: usize, types: &[u32], base: usize) 
     let first = content_has(content, at, types, base);
     let others = row_has(content, first.next, n - 1, types, base);
     ProductiveRow {
-        all: both(first.has, others.all),
-        one: either(first.has, others.one),
-        next: others.next,
+        all: first.has && others.all,
+        one: first.has || others.one,
+        ..others
     }
 }

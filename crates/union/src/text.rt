@@ -5,15 +5,13 @@ ghost use Rattle.union.specs.View.{Views, Viewed};
 ghost use Rattle.union.specs.PairNumbers.{rule_numbered};
 
 use crate::united::United;
-use basis::numbers::wider;
 use reader::tags::TEXT_RULE_TAG;
 
 pub fn rule_text(old: &[u8], add: &[u8], v: United, i: usize) -> bool
     requires { (Viewed old.now add.now v) × (i < v.rules) }
     ensures { (u : Table) → Views old.now add.now v u → result ≡ (rule_numbered u i).text }
 {
-    let content_from = v.content_from;
-    let from = wider(content_from[i]);
+    let from = usize::from(v.content_from[i]);
     if i < v.old_rules {
         return old[from - 5] == TEXT_RULE_TAG;
     }

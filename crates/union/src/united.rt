@@ -10,8 +10,7 @@ ghost use Rattle.reader.specs.TableIndex.{rule_count};
 ghost use Rattle.union.specs.View.{Views, rules_only, NextRule, Grown, Adding, AddingTo, UnionSeen};
 
 use crate::labels::{Names, new_names, united_label};
-use crate::productive::both;
-use reader::index::{CONTENT_FROM, CONTENT_TO, rule_count, rule_label, rule_type};
+use reader::index::TableIndex;
 
 // Old rules come first. A type of the addition counts from 128 on. `firsts` has the number of the first rule of each rule's pair; the
 // content of a rule stands in the bytes of its own table.
@@ -39,17 +38,12 @@ fn pair_place(v: United, ty: u8, label: u8) -> usize
     ensures { ((old add : List ℕ) (rs : List Rule) (x : Rule) → Views old add v (rules_only rs)
         → ty ≡ x.type → label ≡ x.label → result ≡ place same_pair x rs) × (result ≤ v.rules) }
 {
-    let types = v.types;
-    let labels = v.labels;
-    let rules = v.rules;
-    let mut i: usize = 0;
-    while i < rules {
-        if both(ty == types[i], label == labels[i]) {
+    for i in 0..v.rules {
+        if ty == v.types[i] && label == v.labels[i] {
             return i;
         }
-        i += 1;
     }
-    rules
+    v.rules
 }
 
 // The view with one rule more.
@@ -86,7 +80,7 @@ fn no_rules(olds: usize) -> United
 }
 
 // One rule more of the old table.
-fn with_old_rule(v: United, index: &[u16; 899], i: usize) -> United
+fn with_old_rule(v: United, index: &TableIndex, i: usize) -> United
     requires { ((old : List ℕ) × SomeHeld large old index.now) × (v.rules ≡ i) × (i < rule_count index.now)
         × (v.old_rules ≡ rule_count index.now) }
     ensures { ((old add : List ℕ) (g : Table) → Held large old index.now g
@@ -94,27 +88,24 @@ fn with_old_rule(v: United, index: &[u16; 899], i: usize) -> United
 {
     with_rule(
         v,
-        rule_type(index, i) as u8,
-        rule_label(index, i) as u8,
-        index[CONTENT_FROM + i],
-        index[CONTENT_TO + i],
+        index.rule_type(i) as u8,
+        index.rule_label(i) as u8,
+        index.contents_from[i],
+        index.contents_to[i],
     )
 }
 
 // The rules of the old table.
-fn old_rules(index: &[u16; 899]) -> United
+fn old_rules(index: &TableIndex) -> United
     requires { (old : List ℕ) × SomeHeld large old index.now }
     ensures { ((old add : List ℕ) (g : Table) → Held large old index.now g
         → Views old add result (rules_only g.rules))
         × (result.rules ≡ rule_count index.now) × (result.old_rules ≡ rule_count index.now) }
 {
-    let rules = rule_count(index);
+    let rules = index.rule_count();
     let mut v = no_rules(rules);
-    let mut i: usize = 0;
-    while i < rules {
-        let more = with_old_rule(v, index, i);
-        v = more;
-        i += 1;
+    for i in 0..rules {
+        v = with_old_rule(v, index, i);
     }
     v
 }
@@ -123,9 +114,9 @@ fn old_rules(index: &[u16; 899]) -> United
 fn with_new_rule(
     v: United,
     old: &[u8],
-    olds: &[u16; 899],
+    olds: &TableIndex,
     add: &[u8],
-    adds: &[u16; 899],
+    adds: &TableIndex,
     fresh: Names,
     i: usize,
 ) -> United
@@ -136,13 +127,13 @@ fn with_new_rule(
         → Views old.now add.now result
         (rules_only (g.rules ++ map (added large g h) (take (i + 1) h.rules)))) × Grown v result }
 {
-    let label = united_label(old, olds, add, adds, fresh, rule_label(adds, i));
+    let label = united_label(old, olds, add, adds, fresh, adds.rule_label(i));
     with_rule(
         v,
-        (128 + rule_type(adds, i)) as u8,
+        (128 + adds.rule_type(i)) as u8,
         label as u8,
-        adds[CONTENT_FROM + i],
-        adds[CONTENT_TO + i],
+        adds.contents_from[i],
+        adds.contents_to[i],
     )
 }
 
@@ -150,9 +141,9 @@ fn with_new_rule(
 fn new_rules(
     v: United,
     old: &[u8],
-    olds: &[u16; 899],
+    olds: &TableIndex,
     add: &[u8],
-    adds: &[u16; 899],
+    adds: &TableIndex,
     fresh: Names,
 ) -> United
     requires { (Adding old.now olds.now add.now adds.now fresh) × (v.rules ≡ v.old_rules) × (v.old_rules ≤ 128) }
@@ -160,19 +151,15 @@ fn new_rules(
         → Views old.now add.now v (rules_only g.rules)
         → Views old.now add.now result (unite large g h) }
 {
-    let rules = rule_count(adds);
     let mut all = v;
-    let mut i: usize = 0;
-    while i < rules {
-        let more = with_new_rule(all, old, olds, add, adds, fresh, i);
-        all = more;
-        i += 1;
+    for i in 0..adds.rule_count() {
+        all = with_new_rule(all, old, olds, add, adds, fresh, i);
     }
     all
 }
 
 // The union of two tables that were read.
-pub fn unite_tables(old: &[u8], index: &[u16; 899], add: &[u8], addition: &[u16; 899]) -> Union
+pub fn unite_tables(old: &[u8], index: &TableIndex, add: &[u8], addition: &TableIndex) -> Union
     requires { (SomeHeld large old.now index.now) × (SomeHeld large add.now addition.now) }
     ensures { (g h : Table) → Held large old.now index.now g
         → Held large add.now addition.now h

@@ -10,7 +10,7 @@ ghost use Rattle.grammar.specs.Promises.{Membership, KindTest};
 use crate::deciding::{read_and_decide, read_and_test_local, read_and_test_single_type};
 use basis::limits::limits_of;
 use basis::work::clear_work;
-use grammar::{Format, Refusal, Size, Verdict};
+use grammar::{Format, Refusal, Size};
 
 // Does the table let in the document?
 pub fn lets_in(
@@ -20,52 +20,55 @@ pub fn lets_in(
     format: Format,
     document: &[u8],
     work: &mut [u32],
-) -> Verdict
+) -> Result<bool, Refusal>
     ensures { Membership (size_limits size) classes.now table.now format document.now
         work.old (after (verdict_numbers result) [] work.new) }
 {
     let limits = limits_of(size);
     if work.len() < limits.words {
-        return Verdict::Refused(Refusal::WorkTooShort);
+        return Err(Refusal::WorkTooShort);
     }
-    let words = limits.words;
     let answer = read_and_decide(
         limits,
         classes,
         table,
         format,
         document,
-        &mut work[0..words],
+        &mut work[..limits.words],
     );
-    clear_work(limits, work);
+    clear_work(limits.words, work);
     answer
 }
 
 // Is the table local?
-pub fn is_local(size: Size, classes: &[u8], table: &[u8], work: &mut [u32]) -> Verdict
+pub fn is_local(size: Size, classes: &[u8], table: &[u8], work: &mut [u32]) -> Result<bool, Refusal>
     ensures { KindTest (size_limits size) classes.now local table.now work.old
         (after (verdict_numbers result) [] work.new) }
 {
     let limits = limits_of(size);
     if work.len() < limits.words {
-        return Verdict::Refused(Refusal::WorkTooShort);
+        return Err(Refusal::WorkTooShort);
     }
     let answer = read_and_test_local(limits, classes, table);
-    clear_work(limits, work);
+    clear_work(limits.words, work);
     answer
 }
 
 // Is the table single-type?
-pub fn is_single_type(size: Size, classes: &[u8], table: &[u8], work: &mut [u32]) -> Verdict
+pub fn is_single_type(
+    size: Size,
+    classes: &[u8],
+    table: &[u8],
+    work: &mut [u32],
+) -> Result<bool, Refusal>
     ensures { KindTest (size_limits size) classes.now single_type table.now work.old
         (after (verdict_numbers result) [] work.new) }
 {
     let limits = limits_of(size);
     if work.len() < limits.words {
-        return Verdict::Refused(Refusal::WorkTooShort);
+        return Err(Refusal::WorkTooShort);
     }
-    let words = limits.words;
-    let answer = read_and_test_single_type(limits, classes, table, &mut work[0..words]);
-    clear_work(limits, work);
+    let answer = read_and_test_single_type(limits, classes, table, &mut work[..limits.words]);
+    clear_work(limits.words, work);
     answer
 }

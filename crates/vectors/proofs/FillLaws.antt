@@ -5,8 +5,9 @@ use native.Mathlib.Nat.{div-add-mod, mul-add-mod_self_left}
 use native.Mathlib.Omega.{arith}
 use mathlib.Core.List.{List, [], ◌∷◌, ◌++◌, append-nil}
 use mathlib.Core.Path.{◌≡◌, refl, sym, ◌∙◌, ap}
-use lib.ListN.{length, drop, set, length-append, drop_of_length-le}
+use lib.ListN.{length, drop, set, replicate, length-append, drop_of_length-le}
 use lib.Seq.{drop-cons, set_at, append_snoc}
+use Rattle.std.proofs.lemmas.List.{replicate_more}
 use Rattle.vectors.specs.CaseFile.{listed, output_byte}
 
 -- so many items filled
@@ -41,3 +42,10 @@ pub output_byte_small : (i : ℕ) → (i % 256 * 7 + 165) % 256 ≡ output_byte 
 output_byte_small i =
     let e : 165 + 7 * i ≡ 256 * (7 * (i / 256)) + (i % 256 * 7 + 165) = omega (arith, div-add-mod i 256) in
     sym (ap (λ (n : ℕ). n % 256) e ∙ mul-add-mod_self_left 256 (7 * (i / 256)) (i % 256 * 7 + 165))
+
+-- so many times one item
+pub listed_alike : (n x : ℕ) → replicate n x ≡ listed (λ i. x) n
+unfolding listed
+listed_alike zero x = refl
+listed_alike (suc n) x =
+    ap (λ (k : ℕ). replicate k x) (sym (add-one n)) ∙ sym (replicate_more n x) ∙ ap (λ (l : List ℕ). l ++ (x ∷ [])) (listed_alike n x)

@@ -9,16 +9,15 @@ use basis::limits::size_numbered;
 use basis::refusals::number_of;
 use documents::calls::document_reads;
 use documents::documents::format_numbered;
-use grammar::{Reading, Size, Verdict, Written};
+use grammar::{Format, Refusal, Size, Source};
 use pages::calls::pages;
 use reader::calls::{label_name, table_reads};
+use results::plan::Kind;
 use validator::calls::{is_local, is_single_type, lets_in};
-use widening::calls::{
-    sample, widen_local_by_document, widen_local_by_table, widen_single_type_by_document,
-    widen_single_type_by_table,
-};
+use widening::calls::{sample, widen};
 
-// A case's call, and the numbers that the call takes: the size, the caller's label and the format of the document.
+// A case's call, and the numbers that the call takes: the size, the caller's label and the format of the document. A call is a number,
+// as the case file has it and its line prints it; `answer` says which call each number stands for.
 #[derive(Clone, Copy)]
 pub struct Asked {
     pub call: u8,
@@ -35,69 +34,42 @@ pub struct Told {
     pub outsum: u32,
 }
 
-// The numbers of a reading call.
-fn of_reading(answer: Reading, outsum: u32) -> Told
-    ensures refusal { result.refusal ≡ (reading_numbers answer).refusal }
-    ensures value { result.value ≡ (reading_numbers answer).value }
-    ensures outsum { result.outsum ≡ outsum }
-{
-    match answer {
-        Reading::Readable => Told {
-            refusal: 0,
-            value: 1,
-            outsum: outsum,
-        },
-        Reading::Refused(r) => Told {
-            refusal: number_of(r),
-            value: 0,
-            outsum: outsum,
-        },
-    }
-}
-
-// The numbers of a call that decides.
-fn of_verdict(answer: Verdict, outsum: u32) -> Told
-    ensures refusal { result.refusal ≡ (verdict_numbers answer).refusal }
-    ensures value { result.value ≡ (verdict_numbers answer).value }
-    ensures outsum { result.outsum ≡ outsum }
-{
-    match answer {
-        Verdict::Yes => Told {
-            refusal: 0,
-            value: 1,
-            outsum: outsum,
-        },
-        Verdict::No => Told {
-            refusal: 0,
-            value: 0,
-            outsum: outsum,
-        },
-        Verdict::Refused(r) => Told {
-            refusal: number_of(r),
-            value: 0,
-            outsum: outsum,
-        },
-    }
-}
-
 // The numbers of a call that writes.
-fn of_written(answer: Written, outsum: u32) -> Told
+#[tactic(auto, unfolding(grammar::specs::Answers::written_numbers, grammar::specs::Answers::refused_by))]
+fn of_written(answer: Result<usize, Refusal>, outsum: u32) -> Told
     ensures refusal { result.refusal ≡ (written_numbers answer).refusal }
     ensures value { result.value ≡ (written_numbers answer).value }
     ensures outsum { result.outsum ≡ outsum }
 {
-    match answer {
-        Written::Length(n) => Told {
-            refusal: 0,
-            value: n as u64,
-            outsum: outsum,
-        },
-        Written::Refused(r) => Told {
-            refusal: number_of(r),
-            value: 0,
-            outsum: outsum,
-        },
+    let (refusal, value) = match answer {
+        Ok(n) => (0, n as u64),
+        Err(r) => (number_of(r), 0),
+    };
+    Told {
+        refusal,
+        value,
+        outsum,
     }
+}
+
+// The numbers of a reading call.
+#[tactic(auto, unfolding(grammar::specs::Answers::reading_numbers, grammar::specs::Answers::written_numbers))]
+fn of_reading(answer: Result<(), Refusal>, outsum: u32) -> Told
+    ensures refusal { result.refusal ≡ (reading_numbers answer).refusal }
+    ensures value { result.value ≡ (reading_numbers answer).value }
+    ensures outsum { result.outsum ≡ outsum }
+{
+    of_written(answer.map(|()| 1), outsum)
+}
+
+// The numbers of a call that decides.
+#[tactic(auto, unfolding(grammar::specs::Answers::verdict_numbers, grammar::specs::Answers::written_numbers))]
+fn of_verdict(answer: Result<bool, Refusal>, outsum: u32) -> Told
+    ensures refusal { result.refusal ≡ (verdict_numbers answer).refusal }
+    ensures value { result.value ≡ (verdict_numbers answer).value }
+    ensures outsum { result.outsum ≡ outsum }
+{
+    of_written(answer.map(usize::from), outsum)
 }
 
 // The numbers of a name: where it stands, times 65,536, and its length.
@@ -108,16 +80,16 @@ fn of_name(refusal: u32, table: &[u8], name: &[u8]) -> Told
     let outsum = byte_sum(name);
     if refusal != 0 {
         return Told {
-            refusal: refusal,
+            refusal,
             value: 0,
-            outsum: outsum,
+            outsum,
         };
     }
     let place = place_of(table, name);
     Told {
-        refusal: refusal,
+        refusal,
         value: (place % 65536 * 65536 + name.len() % 65536) as u64,
-        outsum: outsum,
+        outsum,
     }
 }
 
@@ -128,23 +100,13 @@ fn label_told(size: Size, classes: &[u8], table: &[u8], label: usize, work: &mut
     of_name(refusal, table, name)
 }
 
-// The widening that is asked for, of the first input by the second.
-fn widened(
-    asked: Asked,
-    classes: &[u8],
-    first: &[u8],
-    second: &[u8],
-    out: &mut [u8],
-    work: &mut [u32],
-) -> Written {
-    let size = size_numbered(asked.size);
-    let format = format_numbered(asked.format);
-    let call = asked.call;
+// The kind that a widening call makes, and the sort of its addition.
+fn widening_of(call: u8, format: Format) -> (Kind, Source) {
     match call {
-        8 => widen_local_by_table(size, classes, first, second, out, work),
-        9 => widen_local_by_document(size, classes, first, format, second, out, work),
-        10 => widen_single_type_by_table(size, classes, first, second, out, work),
-        _ => widen_single_type_by_document(size, classes, first, format, second, out, work),
+        8 => (Kind::Local, Source::Table),
+        9 => (Kind::Local, Source::Document(format)),
+        10 => (Kind::SingleType, Source::Table),
+        _ => (Kind::SingleType, Source::Document(format)),
     }
 }
 
@@ -177,10 +139,11 @@ pub fn answer(
             sample(size, classes, format, first, out, work),
             byte_sum(out),
         ),
-        8..=11 => of_written(
-            widened(asked, classes, first, second, out, work),
-            byte_sum(out),
-        ),
+        8..=11 => {
+            let (kind, source) = widening_of(call, format);
+            let made = widen(size, classes, kind, source, first, second, out, work);
+            of_written(made, byte_sum(out))
+        }
         12 => of_written(pages(size, classes, first, out, work), byte_sum(out)),
         _ => Told {
             refusal: 99,

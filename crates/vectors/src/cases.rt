@@ -42,19 +42,12 @@ fn read_input<F: Read>(input: &mut F, space: &mut [u8]) -> usize
     read_bytes(input, count, space)
 }
 
-// A number and what follows it.
-fn print_number<R: Print>(rt: &R, n: u64, after: u8) -> io::Result<()> {
-    print!(rt; "{n}")?;
-    rt.write_all(&[after])
-}
-
 // The line of a case.
 fn print_line<R: Print>(rt: &R, call: u8, told: Told, worksum: u32) -> io::Result<()> {
-    print_number(rt, call as u64, b' ')?;
-    print_number(rt, told.refusal as u64, b' ')?;
-    print_number(rt, told.value, b' ')?;
-    print_number(rt, told.outsum as u64, b' ')?;
-    print_number(rt, worksum as u64, b'\n')
+    println!(rt;
+        "{call} {} {} {} {worksum}",
+        told.refusal, told.value, told.outsum
+    )
 }
 
 // Fills the lent slices, runs the call and prints the line.
@@ -123,8 +116,8 @@ fn run_under<R: Print, F: Read>(
     let word = read_number(input);
     let bytes = read_number(input);
     let asked = Asked {
-        call: call,
-        size: size,
+        call,
+        size,
         label: read_number(input),
         format: read_number(input),
     };

@@ -10,23 +10,19 @@ fn output_byte(at: usize) -> u8
 }
 
 // Fills an output slice.
+#[tactic(auto, using(crate::proofs::FillLaws::filled_next), unfolding(crate::specs::CaseFile::listed))]
 pub fn fill_output(out: &mut [u8])
     ensures { out.new ≡ listed output_byte (length out.old) }
 {
-    let mut i: usize = 0;
-    while i < out.len() {
-        out[i] = output_byte(i);
-        i += 1;
+    for (i, byte) in out.iter_mut().enumerate() {
+        *byte = output_byte(i);
     }
 }
 
 // Fills a working slice with one word.
+#[tactic(auto, using(crate::proofs::FillLaws::listed_alike))]
 pub fn fill_work(work: &mut [u32], word: u32)
     ensures { work.new ≡ listed (λ i. word) (length work.old) }
 {
-    let mut i: usize = 0;
-    while i < work.len() {
-        work[i] = word;
-        i += 1;
-    }
+    work.fill(word);
 }

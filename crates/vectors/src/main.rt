@@ -12,12 +12,13 @@ mod sums;
 use cases::run_next;
 use std::io;
 
-// A proved loop has to end, and nothing says that the input does. So the turns count down, from a number that no run uses up.
+// A proved loop has to end, and nothing says that the input does. So the turns are bounded, by a number that no run uses up.
 fn main(rt: HostRuntime) -> io::Result<()> {
     let mut input = rt.reader();
-    let mut turns = u64::MAX;
-    while turns > 0 && run_next(&rt, &mut input)? {
-        turns -= 1;
+    for _ in 0..u64::MAX {
+        if !run_next(&rt, &mut input)? {
+            break;
+        }
     }
     Ok(())
 }

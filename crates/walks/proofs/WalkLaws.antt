@@ -2,7 +2,7 @@
 -- `walk_optional`) and operand by operand (`in_turn_none`, `in_turn_next`, `each_none`, `each_next`), and where the parts stand that
 -- the walk goes on with (`row_first`, `rest_proper`). Then child by child (`walks_next`), and
 -- that the children's walks tell whether the content matches (`no_children_lem`, `some_children`).
-use Prim.Native.Nat.{ℕ, zero, suc, ◌+◌, ◌*◌, ◌-◌, ◌≤◌, ◌<◌}
+use Prim.Native.Nat.{ℕ, suc, ◌+◌, ◌*◌, ◌-◌, ◌≤◌, ◌<◌}
 use native.Mathlib.Nat.{eq-or-lt_of_le}
 use native.Mathlib.Omega.{arith}
 use mathlib.Core.Bool.{Bool, true, false, not, ◌&&◌, ◌||◌, or-false}
@@ -10,10 +10,11 @@ use mathlib.Core.List.{List, [], ◌∷◌, ◌++◌}
 use mathlib.Core.Logic.{⊎_elim}
 use mathlib.Core.Option.{some as just}
 use mathlib.Core.Path.{◌≡◌, refl, sym, ◌∙◌, ap, subst}
-use lib.Dec.{eqb}
+use lib.Dec.{eqb, ltb}
 use lib.ListN.{length, get_or, get_elem?, replicate, length-append}
-use borrow.Author.Tests.{ne_eqb}
-use Rattle.grammar.specs.Limits.{Limits}
+use borrow.Author.Tests.{ne_eqb, ltb-true, ltb-false}
+use Rattle.theory.proofs.Lists.BoolLaws.{passes_or_fails}
+use Rattle.grammar.specs.Limits.{Limits, large}
 use Rattle.grammar.specs.Content.{Content, none, empty, type, sequence, choice, any_number, one_or_more, optional, Contents, []ᶜ, ◌∷ᶜ◌}
 use Rattle.grammar.specs.ReadContent.{content_bytes, operand_bytes, operators}
 use Rattle.theory.specs.Marked.{run}
@@ -37,7 +38,7 @@ use Rattle.reader.proofs.ExprLaws.{
   operator_optional,
 }
 use Rattle.reader.specs.ContentAt.{ContentAt, ContentsAt}
-use Rattle.reader.proofs.ContentAtLaws.{FirstThere, first_of, others_from, none_there}
+use Rattle.reader.proofs.ContentAtLaws.{FirstThere, first_of, others_from, none_there, content_inside, type_there, count_there, operand_there}
 use Rattle.walks.specs.TypeSets.{set_at, tests_at}
 use Rattle.walks.specs.WalkAt.{walk_at, walk_in_turn_at, walk_each_at, walks_at, run_at, walked, ended, WholeAt}
 use Rattle.walks.specs.declared.matching.Passed.{Passed}
@@ -94,21 +95,6 @@ mutual
       let k = each_next_place cs p.next p.marks b has (n || p.nullable) (f || p.final) in
       let l = length-append (content_bytes c) (operand_bytes cs) in
       omega arith
-
--- the operator that is none of the others
-pub byte_last : (n : ℕ) → n ≤ 7 → (n ≡ 0 → ⊥) → (n ≡ 1 → ⊥) → (n ≡ 2 → ⊥) → (n ≡ 3 → ⊥) → (n ≡ 4 → ⊥) → (n ≡ 5 → ⊥)
-    → (n ≡ 6 → ⊥) → n ≡ 7
-byte_last zero h p0 p1 p2 p3 p4 p5 p6 = absurd (p0 refl)
-byte_last (suc zero) h p0 p1 p2 p3 p4 p5 p6 = absurd (p1 refl)
-byte_last (suc (suc zero)) h p0 p1 p2 p3 p4 p5 p6 = absurd (p2 refl)
-byte_last (suc (suc (suc zero))) h p0 p1 p2 p3 p4 p5 p6 = absurd (p3 refl)
-byte_last (suc (suc (suc (suc zero)))) h p0 p1 p2 p3 p4 p5 p6 = absurd (p4 refl)
-byte_last (suc (suc (suc (suc (suc zero))))) h p0 p1 p2 p3 p4 p5 p6 = absurd (p5 refl)
-byte_last (suc (suc (suc (suc (suc (suc zero)))))) h p0 p1 p2 p3 p4 p5 p6 = absurd (p6 refl)
-byte_last (suc (suc (suc (suc (suc (suc (suc n))))))) h p0 p1 p2 p3 p4 p5 p6 = few n h
-  where
-    few : (n : ℕ) → suc (suc (suc (suc (suc (suc (suc n)))))) ≤ 7 → suc (suc (suc (suc (suc (suc (suc n)))))) ≡ 7
-    few n h = omega arith
 
 -- an expression that also matches no children
 abbrev pub or_none : Walked → Walked
@@ -233,6 +219,25 @@ module _ (lim : Limits) (s : List ℕ) (at : ℕ) (stands : ContentAt lim s at) 
             part ≡ walk_at s (at + 1) marks (b || (not (eqb op 7) && is_marked marks (at + 1))) has
             → ended at (record { marks = part.marks; next = part.next; nullable = not (eqb op 6); final = part.final }) ≡ walk_at s at marks b has
 
+-- The bytes that the code reads, and the marks that it stores, are there.
+module _ {s : List ℕ} {at : ℕ} (stands : ContentAt large s at) where
+  pub at_below : at < length s
+  at_below = (content_inside large s at stands).0
+
+  pub operator_small : get_or s at 0 ≤ 7
+  operator_small = (content_inside large s at stands).1
+
+  pub second_below : 2 ≤ get_or s at 0 → at + 1 < length s
+  second_below h =
+      ⊎_elim
+      (λ e. (type_there large s at stands (sym e)).0)
+      (λ k.
+      ⊎_elim
+      (λ low. (content_inside large s (at + 1) (operand_there large s at stands (ltb-true 4 (get_or s at 0) low))).0)
+      (λ high. count_there large s at stands k (ltb-false 4 (get_or s at 0) high))
+      (passes_or_fails (ltb 4 (get_or s at 0))))
+      (eq-or-lt_of_le h)
+
 -- Operand by operand.
 module _ (lim : Limits) (s : List ℕ) (at count : ℕ) (row : ContentsAt lim s at count) (over : count ≤ 0) where
   row_over : row.contents ≡ []ᶜ
@@ -299,30 +304,34 @@ module _ (lim : Limits) (s : List ℕ) (at count : ℕ) (row : ContentsAt lim s 
 
     -- A round as the code goes: p is what the first operand gave.
     module _ (marks' : List ℕ) (p : Passed) (first : walked marks' p ≡ walk_at s at marks b has) where
-      pub rest_proper : ContentsAt lim s p.next (count - 1)
-      rest_proper = others_from lim s at count row row_first p.next (ap (λ (w : Walked). w.next) first ∙ first_end)
-
       pub rest_forward : (at < p.next) × (p.next ≤ length s)
       rest_forward =
           subst (λ (w : Walked). (at < w.next) × (w.next ≤ length s)) (sym first) (walk_forward lim s at row_first.first marks b has)
 
-      pub in_turn_goes : (n f b' n' f' : Bool) → b' ≡ ((b && p.nullable) || is_marked marks at) → n' ≡ (n && p.nullable)
-          → f' ≡ ((f && p.nullable) || p.ends)
-          → walk_in_turn_at s p.next (count - 1) marks' b' has n' f' ≡ walk_in_turn_at s at count marks b has n f
-      in_turn_goes n f b' n' f' eb en ef =
-          (λ i. walk_in_turn_at s p.next (count - 1) marks' (eb i) has (en i) (ef i))
-          ∙ ap (λ (w : Walked).
-          walk_in_turn_at s w.next (count - 1) w.marks ((b && w.nullable) || is_marked marks at) has (n && w.nullable)
-          ((f && w.nullable) || w.final)) first
-          ∙ sym (in_turn_next n f)
+      -- the operands left
+      module _ (rest : ℕ) (one_less : rest ≡ count - 1) where
+        pub rest_proper : ContentsAt lim s p.next rest
+        rest_proper =
+            subst (ContentsAt lim s p.next) (sym one_less)
+            (others_from lim s at count row row_first p.next (ap (λ (w : Walked). w.next) first ∙ first_end))
 
-      pub each_goes : (n f n' f' : Bool) → n' ≡ (n || p.nullable) → f' ≡ (f || p.ends)
-          → walk_each_at s p.next (count - 1) marks' b has n' f' ≡ walk_each_at s at count marks b has n f
-      each_goes n f n' f' en ef =
-          (λ i. walk_each_at s p.next (count - 1) marks' b has (en i) (ef i))
-          ∙ ap (λ (w : Walked).
-          walk_each_at s w.next (count - 1) w.marks b has (n || w.nullable) (f || w.final)) first
-          ∙ sym (each_next n f)
+        pub in_turn_goes : (n f b' n' f' : Bool) → b' ≡ ((b && p.nullable) || is_marked marks at) → n' ≡ (n && p.nullable)
+            → f' ≡ ((f && p.nullable) || p.ends)
+            → walk_in_turn_at s p.next rest marks' b' has n' f' ≡ walk_in_turn_at s at count marks b has n f
+        in_turn_goes n f b' n' f' eb en ef =
+            (λ i. walk_in_turn_at s p.next (one_less i) marks' (eb i) has (en i) (ef i))
+            ∙ ap (λ (w : Walked).
+            walk_in_turn_at s w.next (count - 1) w.marks ((b && w.nullable) || is_marked marks at) has (n && w.nullable)
+            ((f && w.nullable) || w.final)) first
+            ∙ sym (in_turn_next n f)
+
+        pub each_goes : (n f n' f' : Bool) → n' ≡ (n || p.nullable) → f' ≡ (f || p.ends)
+            → walk_each_at s p.next rest marks' b has n' f' ≡ walk_each_at s at count marks b has n f
+        each_goes n f n' f' en ef =
+            (λ i. walk_each_at s p.next (one_less i) marks' b has (en i) (ef i))
+            ∙ ap (λ (w : Walked).
+            walk_each_at s w.next (count - 1) w.marks b has (n || w.nullable) (f || w.final)) first
+            ∙ sym (each_next n f)
 
 -- Child by child, over a whole content.
 module _ (s : List ℕ) (marks : List ℕ) where

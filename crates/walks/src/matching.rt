@@ -10,7 +10,6 @@ ghost use Rattle.walks.specs.TypeSets.{set_at, tests_at};
 ghost use Rattle.walks.specs.WalkAt.{walk_at, walk_in_turn_at, walk_each_at, walks_at, run_at};
 ghost use Rattle.walks.specs.WalkAt.{walked, ended, WholeAt, AroundType, WalkRoom};
 
-use basis::numbers::wide;
 use reader::operators::{
     ANY_NUMBER, CHOICE, EMPTY, NONE, ONE_OR_MORE, OPTIONAL_BYTE, SEQUENCE, TYPE, TYPE_BYTE,
 };
@@ -25,34 +24,12 @@ pub struct Passed {
     pub ends: bool,
 }
 
-fn both(a: bool, b: bool) -> bool
-    ensures { result ≡ (a && b) }
-{
-    if a {
-        return b;
-    }
-    false
-}
-
-fn either(a: bool, b: bool) -> bool
-    ensures { result ≡ (a || b) }
-{
-    if a {
-        return true;
-    }
-    b
-}
-
 // Stores whether the children so far can end the expression at a place.
 fn mark(marks: &mut [u8], at: usize, ends: bool)
     requires { at < length marks.old }
     ensures { marks.new ≡ set marks.old at (mark_number ends) }
 {
-    if ends {
-        marks[at] = 1;
-        return;
-    }
-    marks[at] = 0;
+    marks[at] = u8::from(ends);
 }
 
 // Whether the child, if it may come here, has the type.
@@ -60,10 +37,7 @@ fn allowed(incoming: bool, words: &[u32], base: usize, k: usize) -> bool
     requires { (k < 128) × (base + 4 ≤ length words.now) }
     ensures { result ≡ (incoming && set_at words.now base k) }
 {
-    if incoming {
-        return has(words, base, k);
-    }
-    false
+    incoming && has(words, base, k)
 }
 
 // The same answer, with its end stored at the expression's first byte.
@@ -80,9 +54,8 @@ fn or_none(part: Passed) -> Passed
     ensures { result ≡ record { next = part.next; nullable = true; ends = part.ends } }
 {
     Passed {
-        next: part.next,
         nullable: true,
-        ends: part.ends,
+        ..part
     }
 }
 
@@ -104,7 +77,7 @@ fn typed(
       final = incoming && set_at words.now base (get_or content.now (at + 1) 0);
     }) }
 {
-    let k = wide(content[at + 1]);
+    let k = usize::from(content[at + 1]);
     let part = Passed {
         next: at + 2,
         nullable: false,
@@ -114,6 +87,7 @@ fn typed(
 }
 
 // One child's walk over the expression at a place; `incoming` where the child may begin it.
+#[tactic(auto, using(crate::proofs::WalkLaws::at_below, crate::proofs::WalkLaws::operator_small, crate::proofs::WalkLaws::second_below))]
 #[cycle(each_in_turn_operand_operand_in_turn_pass)]
 fn pass(
     content: &[u8],
@@ -127,7 +101,7 @@ fn pass(
     ensures { walked marks.new result
         ≡ walk_at content.now at marks.old incoming (set_at words.now base) }
 {
-    let operator = wide(content[at]);
+    let operator = usize::from(content[at]);
     match operator {
         NONE => Passed {
             next: at + 1,
@@ -141,22 +115,22 @@ fn pass(
         },
         TYPE => typed(content, at, marks, incoming, words, base),
         SEQUENCE => {
-            let count = wide(content[at + 1]);
+            let count = usize::from(content[at + 1]);
             let all = in_turn(content, count, at + 2, marks, incoming, words, base);
             sealed(marks, at, all)
         }
         CHOICE => {
-            let count = wide(content[at + 1]);
+            let count = usize::from(content[at + 1]);
             let one = each(content, count, at + 2, marks, incoming, words, base);
             sealed(marks, at, one)
         }
         ANY_NUMBER => {
-            let begins = either(incoming, marks[at + 1] == 1);
+            let begins = incoming | (marks[at + 1] == 1);
             let part = operand(content, at + 1, marks, begins, words, base);
             sealed(marks, at, or_none(part))
         }
         ONE_OR_MORE => {
-            let begins = either(incoming, marks[at + 1] == 1);
+            let begins = incoming | (marks[at + 1] == 1);
             let part = operand(content, at + 1, marks, begins, words, base);
             sealed(marks, at, part)
         }
@@ -188,17 +162,16 @@ fn operand(
 }
 
 // Whether the expression at a place is a type under one operator: any number of it, one or more of it, or optional.
+#[tactic(auto, using(crate::proofs::WalkLaws::at_below, crate::proofs::WalkLaws::operator_small, crate::proofs::WalkLaws::second_below))]
 fn is_around_type(content: &[u8], at: usize) -> bool
     requires { ContentAt large content.now at }
     ensures { (result ≡ true) ↔ AroundType content.now at }
 {
-    if content[at] < 5 {
-        return false;
-    }
-    content[at + 1] == TYPE_BYTE
+    5 <= content[at] && content[at + 1] == TYPE_BYTE
 }
 
 // One child's walk over a type under one operator.
+#[tactic(auto, using(crate::proofs::WalkLaws::at_below, crate::proofs::WalkLaws::operator_small, crate::proofs::WalkLaws::second_below))]
 fn around_type(
     content: &[u8],
     at: usize,
@@ -213,13 +186,12 @@ fn around_type(
         ≡ walk_at content.now at marks.old incoming (set_at words.now base) }
 {
     let operator = content[at];
-    let again = both(operator != OPTIONAL_BYTE, marks[at + 1] == 1);
-    let begins = either(incoming, again);
+    let again = (operator != OPTIONAL_BYTE) & (marks[at + 1] == 1);
+    let begins = incoming | again;
     let part = typed(content, at + 1, marks, begins, words, base);
     let all = Passed {
-        next: part.next,
         nullable: operator != 6,
-        ends: part.ends,
+        ..part
     };
     sealed(marks, at, all)
 }
@@ -259,24 +231,22 @@ fn in_turn(
     ensures { walked marks.new result
         ≡ walk_in_turn_at content.now from count marks.old begun (set_at words.now base) true false }
 {
-    let mut left = count;
     let mut at = from;
     let mut nullable = true;
     let mut ends = false;
     let mut incoming = begun;
-    while 0 < left {
+    for _done in 0..count {
         let went_on = marks[at] == 1;
         let first = operand_in_turn(content, at, marks, incoming, words, base);
         at = first.next;
-        nullable = both(nullable, first.nullable);
-        ends = either(both(ends, first.nullable), first.ends);
-        incoming = either(both(incoming, first.nullable), went_on);
-        left -= 1;
+        nullable &= first.nullable;
+        ends = (ends & first.nullable) | first.ends;
+        incoming = (incoming & first.nullable) | went_on;
     }
     Passed {
         next: at,
-        nullable: nullable,
-        ends: ends,
+        nullable,
+        ends,
     }
 }
 
@@ -295,21 +265,19 @@ fn each(
     ensures { walked marks.new result
         ≡ walk_each_at content.now from count marks.old incoming (set_at words.now base) false false }
 {
-    let mut left = count;
     let mut at = from;
     let mut nullable = false;
     let mut ends = false;
-    while 0 < left {
+    for _done in 0..count {
         let first = operand(content, at, marks, incoming, words, base);
         at = first.next;
-        nullable = either(nullable, first.nullable);
-        ends = either(ends, first.ends);
-        left -= 1;
+        nullable |= first.nullable;
+        ends |= first.ends;
     }
     Passed {
         next: at,
-        nullable: nullable,
-        ends: ends,
+        nullable,
+        ends,
     }
 }
 
@@ -318,11 +286,7 @@ fn clear(marks: &mut [u8], places: usize)
     requires { places ≤ length marks.old }
     ensures { marks.new ≡ replicate places 0 ++ drop places marks.old }
 {
-    let mut i: usize = 0;
-    while i < places {
-        marks[i] = 0;
-        i += 1;
-    }
+    marks[..places].fill(0);
 }
 
 // The children's walks over the content, one after the other: whether the last one can end it.
@@ -331,10 +295,8 @@ fn walked_through(content: &[u8], marks: &mut [u8], words: &[u32], top: usize, c
         × (top + 4 * count ≤ length words.now) }
     ensures { result ≡ is_marked (walks_at content.now marks.old true (tests_at words.now top count)) 0 }
 {
-    let mut i: usize = 0;
-    while i < count {
+    for i in 0..count {
         pass(content, 0, marks, i == 0, words, top + 4 * i);
-        i += 1;
     }
     marks[0] == 1
 }

@@ -1,17 +1,15 @@
 // The public calls that write a table. A call that is lent too few words changes none; otherwise the words that it needs are zero after
 // it, and words beyond them never change.
 ghost use Rattle.grammar.specs.LimitSets.{size_limits};
-ghost use Rattle.grammar.specs.Kinds.{local, single_type};
 ghost use Rattle.grammar.specs.Answers.{written_numbers};
 ghost use Rattle.grammar.specs.Calls.{after};
 ghost use Rattle.grammar.specs.Promises.{Sampling, Widening};
-ghost use Rattle.grammar.specs.declared.Source.TheVariants.{Table as a_table, Document as a_document};
 ghost use Rattle.results.specs.PlanKind.{kind_of};
 
 use basis::limits::{INPUT, limits_of};
 use basis::work::clear_work;
 use drafting::drafting::{deliver, draft_sample, draft_widened};
-use grammar::{Format, Refusal, Size, Source, Written};
+use grammar::{Format, Refusal, Size, Source};
 use results::plan::Kind;
 
 // The sample of a document, as a table.
@@ -22,22 +20,23 @@ pub fn sample(
     document: &[u8],
     out: &mut [u8],
     work: &mut [u32],
-) -> Written
+) -> Result<usize, Refusal>
     ensures { Sampling (size_limits size) classes.now format document.now out.old work.old
         (after (written_numbers result) out.new work.new) }
 {
     let limits = limits_of(size);
     if work.len() < limits.words {
-        return Written::Refused(Refusal::WorkTooShort);
+        return Err(Refusal::WorkTooShort);
     }
     let mut draft = [0u8; INPUT];
     let made = draft_sample(limits, classes, format, document, &mut draft);
-    clear_work(limits, work);
+    clear_work(limits.words, work);
     deliver(&draft, made, out)
 }
 
-// A widening, to either kind and by either sort of addition.
-fn widen(
+// The least table of a kind that lets in all that the old table lets in, and the addition of either sort: all that a table lets in, or a
+// document.
+pub fn widen(
     size: Size,
     classes: &[u8],
     kind: Kind,
@@ -46,14 +45,14 @@ fn widen(
     addition: &[u8],
     out: &mut [u8],
     work: &mut [u32],
-) -> Written
+) -> Result<usize, Refusal>
     ensures { Widening (size_limits size) classes.now (kind_of kind) source old.now addition.now
         out.old work.old (after (written_numbers result) out.new work.new) }
 {
     let limits = limits_of(size);
     let words = limits.words;
     if work.len() < words {
-        return Written::Refused(Refusal::WorkTooShort);
+        return Err(Refusal::WorkTooShort);
     }
     let mut draft = [0u8; INPUT];
     let made = draft_widened(
@@ -66,104 +65,6 @@ fn widen(
         &mut work[0..words],
         &mut draft,
     );
-    clear_work(limits, work);
+    clear_work(limits.words, work);
     deliver(&draft, made, out)
-}
-
-// The least local table that lets in all that the old table and the addition let in.
-pub fn widen_local_by_table(
-    size: Size,
-    classes: &[u8],
-    old: &[u8],
-    addition: &[u8],
-    out: &mut [u8],
-    work: &mut [u32],
-) -> Written
-    ensures { Widening (size_limits size) classes.now local a_table old.now addition.now
-        out.old work.old (after (written_numbers result) out.new work.new) }
-{
-    widen(
-        size,
-        classes,
-        Kind::Local,
-        Source::Table,
-        old,
-        addition,
-        out,
-        work,
-    )
-}
-
-// The least single-type table that lets in all that the old table and the addition let in.
-pub fn widen_single_type_by_table(
-    size: Size,
-    classes: &[u8],
-    old: &[u8],
-    addition: &[u8],
-    out: &mut [u8],
-    work: &mut [u32],
-) -> Written
-    ensures { Widening (size_limits size) classes.now single_type a_table old.now addition.now
-        out.old work.old (after (written_numbers result) out.new work.new) }
-{
-    widen(
-        size,
-        classes,
-        Kind::SingleType,
-        Source::Table,
-        old,
-        addition,
-        out,
-        work,
-    )
-}
-
-// The least local table that lets in all that the old table lets in, and the document.
-pub fn widen_local_by_document(
-    size: Size,
-    classes: &[u8],
-    old: &[u8],
-    format: Format,
-    document: &[u8],
-    out: &mut [u8],
-    work: &mut [u32],
-) -> Written
-    ensures { Widening (size_limits size) classes.now local (a_document format) old.now
-        document.now out.old work.old (after (written_numbers result) out.new work.new) }
-{
-    widen(
-        size,
-        classes,
-        Kind::Local,
-        Source::Document(format),
-        old,
-        document,
-        out,
-        work,
-    )
-}
-
-// The least single-type table that lets in all that the old table lets in, and the document.
-pub fn widen_single_type_by_document(
-    size: Size,
-    classes: &[u8],
-    old: &[u8],
-    format: Format,
-    document: &[u8],
-    out: &mut [u8],
-    work: &mut [u32],
-) -> Written
-    ensures { Widening (size_limits size) classes.now single_type (a_document format) old.now
-        document.now out.old work.old (after (written_numbers result) out.new work.new) }
-{
-    widen(
-        size,
-        classes,
-        Kind::SingleType,
-        Source::Document(format),
-        old,
-        document,
-        out,
-        work,
-    )
 }

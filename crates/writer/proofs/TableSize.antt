@@ -13,7 +13,8 @@ use Rattle.grammar.specs.Limits.{Limits, large, input_limit}
 use Rattle.grammar.specs.LimitSets.{limits_of}
 use Rattle.grammar.specs.declared.SizeLimits.{SizeLimits}
 use Rattle.grammar.specs.Table.{Rule, Table}
-use Rattle.grammar.specs.Outcome.{given, refused, ◌>>◌, turn_back}
+use Rattle.std.specs.Prelude.{Ok, Err}
+use Rattle.grammar.specs.Outcome.{◌>>◌, turn_back}
 use Rattle.grammar.specs.WriteTable.{table_bytes}
 use Rattle.grammar.specs.Size.{content_too_large, too_large}
 use Rattle.grammar.specs.Widen.{of_size}
@@ -35,13 +36,13 @@ module _ (l : SizeLimits) (g : Table) where
   abbrev long : Bool
   long = ltb input_limit (length (table_bytes g))
 
-  pub size_over : too_large lim g ≡ true → of_size lim g ≡ refused ResultTooLarge
+  pub size_over : too_large lim g ≡ true → of_size lim g ≡ Err ResultTooLarge
   unfolding of_size
-  size_over e = ap (λ (b : Bool). turn_back b ResultTooLarge >> given g) e
+  size_over e = ap (λ (b : Bool). turn_back b ResultTooLarge >> Ok g) e
 
-  pub size_fits : too_large lim g ≡ false → of_size lim g ≡ given g
+  pub size_fits : too_large lim g ≡ false → of_size lim g ≡ Ok g
   unfolding of_size
-  size_fits e = ap (λ (b : Bool). turn_back b ResultTooLarge >> given g) e
+  size_fits e = ap (λ (b : Bool). turn_back b ResultTooLarge >> Ok g) e
 
   pub types_over : l.rules < length g.rules → too_large lim g ≡ true
   unfolding too_large

@@ -4,17 +4,16 @@ use mathlib.Core.List.{List}
 use mathlib.Core.Path.{◌≡◌, sym, ◌∙◌, ap}
 use lib.ListN.{length}
 use Rattle.grammar.specs.Limits.{Limits}
-use Rattle.grammar.specs.Outcome.{Outcome, refused}
+use Rattle.std.specs.Prelude.{Result, Err}
+use Rattle.grammar.specs.declared.Refusal.{Refusal}
 use Rattle.grammar.specs.Answers.{Numbers, written_numbers, numbers_of, written}
 use Rattle.grammar.specs.Calls.{work_after, out_after, after, wrote}
 use Rattle.grammar.specs.declared.Refusal.TheVariants.{WorkTooShort}
-use Rattle.grammar.specs.declared.Written.{Written}
-use Rattle.grammar.specs.declared.Written.TheVariants.{Refused}
 use Rattle.theory.proofs.Theorems.AnswerNumbers.{written_numbers_lem}
 use Rattle.basis.proofs.WorkLaws.{work_kept}
 
-module _ (lim : Limits) (o : Outcome (List ℕ)) (out work : List ℕ) where
-  pub wrote_as : (answer : Written) (left work_left : List ℕ) → answer ≡ written o → left ≡ out_after o out → work_left ≡ work_after lim work
+module _ (lim : Limits) (o : Result (List ℕ) Refusal) (out work : List ℕ) where
+  pub wrote_as : (answer : Result ℕ Refusal) (left work_left : List ℕ) → answer ≡ written o → left ≡ out_after o out → work_left ≡ work_after lim work
       → after (written_numbers answer) left work_left ≡ wrote lim o out work
   unfolding wrote
   wrote_as answer left work_left a l w =
@@ -22,8 +21,8 @@ module _ (lim : Limits) (o : Outcome (List ℕ)) (out work : List ℕ) where
       ∙ ap (λ (x : List ℕ). after (numbers_of length o) x work_left) l
       ∙ ap (λ (x : List ℕ). after (numbers_of length o) (out_after o out) x) w
 
-  pub wrote_short : o ≡ refused WorkTooShort → length work < lim.words
-      → after (written_numbers (Refused WorkTooShort)) out work ≡ wrote lim o out work
+  pub wrote_short : o ≡ Err WorkTooShort → length work < lim.words
+      → after (written_numbers (Err WorkTooShort)) out work ≡ wrote lim o out work
   unfolding written out_after
   wrote_short e h =
-      wrote_as (Refused WorkTooShort) out work (sym (ap written e)) (sym (ap (λ (x : Outcome (List ℕ)). out_after x out) e)) (work_kept lim work h)
+      wrote_as (Err WorkTooShort) out work (sym (ap written e)) (sym (ap (λ (x : Result (List ℕ) Refusal). out_after x out) e)) (work_kept lim work h)

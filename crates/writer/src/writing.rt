@@ -7,25 +7,15 @@ ghost use Rattle.grammar.specs.ReadTable.{rule_tag};
 ghost use Rattle.writer.specs.Writing.{Puts};
 
 use basis::limits::INPUT;
+use grammar::TooLarge;
 use reader::tags::{RULE_TAG, TEXT_RULE_TAG};
-
-// How far a draft is written; or it does not fit a file.
-#[derive(Clone, Copy)]
-pub enum Drafted {
-    Length(usize),
-    TooLarge,
-}
 
 // The bytes at a place.
 pub fn copy(draft: &mut [u8], at: usize, value: &[u8])
     requires { at + length value.now ≤ length draft.old }
     ensures { draft.new ≡ paste draft.old at value.now (length value.now) }
 {
-    let mut i: usize = 0;
-    while i < value.len() {
-        draft[at + i] = value[i];
-        i += 1;
-    }
+    draft[at..at + value.len()].copy_from_slice(value);
 }
 
 // The tag of a rule, for text or not.
@@ -39,20 +29,20 @@ pub fn rule_tag(text: bool) -> u8
 }
 
 // One field after what is written.
-pub fn put_field(draft: &mut [u8], at: usize, tag: u8, value: &[u8]) -> Drafted
+pub fn put_field(draft: &mut [u8], at: usize, tag: u8, value: &[u8]) -> Result<usize, TooLarge>
     requires { (at ≤ input_limit) × (input_limit ≤ length draft.old) }
     ensures { Puts draft.old at (field_bytes tag value.now) draft.new result }
 {
     let size = value.len();
     if INPUT - at < 3 {
-        return Drafted::TooLarge;
+        return Err(TooLarge);
     }
     if INPUT - at - 3 < size {
-        return Drafted::TooLarge;
+        return Err(TooLarge);
     }
     draft[at] = tag;
     draft[at + 1] = (size / 256) as u8;
     draft[at + 2] = (size % 256) as u8;
     copy(draft, at + 3, value);
-    Drafted::Length(at + 3 + size)
+    Ok(at + 3 + size)
 }

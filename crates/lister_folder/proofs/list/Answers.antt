@@ -5,6 +5,7 @@ use Rattle.grammar.specs.Names.{Classes, Loads}
 use Rattle.grammar.specs.Listing.{listing}
 use Rattle.grammar.proofs.ClassRules.{ascii_load}
 use Rattle.basis.proofs.ClassTable.{held, held_is}
+use Rattle.results.specs.PlanKind.{kind_of}
 use Rattle.lister_lines.proofs.PrintSteps.{put_as}
 use Rattle.theory.proofs.Theorems.SizedPromises.{widening_sized}
 use Rattle.lister_lines.proofs.ListingLaws.{standard_size, list_refused, list_inside, list_written}
@@ -14,25 +15,28 @@ use Rattle.lister_folder.proofs.list.Goals as goal
 held-load : Loads held
 held-load = subst Loads (sym held_is) ascii_load
 
-pub slice_bounds-list_bytes-end-in-Length : goal.slice_bounds-list_bytes-end-in-Length
-slice_bounds-list_bytes-end-in-Length c =
-    let w = widening_sized standard_size c.widen_local_by_document.ensures in
+pub slice_bounds-list_bytes-end-in-Ok : goal.slice_bounds-list_bytes-end-in-Ok
+unfolding kind_of
+slice_bounds-list_bytes-end-in-Ok c =
+    let w = widening_sized standard_size c.widen.ensures in
     list_inside held held-load c.args.old.now c.args.document.now c.args.out.now c.args.work.now c.requires.1 c.requires.0 _ _ _ w.settled
-    _ c.in-Length.is
+    _ c.in-Ok.is
 
 pub list_bytes-requires : goal.list_bytes-requires
 list_bytes-requires c = record { loads = held-load; in_bounds = c.requires.2 }
 
-pub returns-in-Refused : goal.returns-in-Refused
-returns-in-Refused c =
-    let w = widening_sized standard_size c.widen_local_by_document.ensures in
+pub returns-in-Err : goal.returns-in-Err
+unfolding kind_of
+returns-in-Err c =
+    let w = widening_sized standard_size c.widen.ensures in
     put_as (ap (λ (l : Classes). listing standard l c.args.old.now c.args.document.now) held_is)
     (list_refused held held-load c.args.old.now c.args.document.now c.args.out.now c.args.work.now c.requires.1 c.requires.0 _ _ _ w.settled
-    _ c.in-Refused.is c.refusal_line.ensures)
+    _ c.in-Err.is c.refusal_line.ensures)
 
-pub returns-in-Length : goal.returns-in-Length
-returns-in-Length c =
-    let w = widening_sized standard_size c.widen_local_by_document.ensures in
+pub returns-in-Ok : goal.returns-in-Ok
+unfolding kind_of
+returns-in-Ok c =
+    let w = widening_sized standard_size c.widen.ensures in
     put_as (ap (λ (l : Classes). listing standard l c.args.old.now c.args.document.now) held_is)
     (list_written held held-load c.args.old.now c.args.document.now c.args.out.now c.args.work.now c.requires.1 c.requires.0 _ _ _ w.settled
-    _ c.in-Length.is c.list_bytes.ensures)
+    _ c.in-Ok.is c.list_bytes.ensures)

@@ -15,15 +15,15 @@ use Rattle.printer_folder.proofs.print.Goals as goal
 held-load : Loads held
 held-load = subst Loads (sym held_is) ascii_load
 
-pub returns-in-Refused : goal.returns-in-Refused
-returns-in-Refused c =
+pub returns-in-Err : goal.returns-in-Err
+returns-in-Err c =
     let w = paging_sized standard_size c.pages.ensures.paging in
     put_as (ap (λ (l : Classes). printing standard l c.args.table.now) held_is)
-    (print_refused held held-load c.args.table.now c.args.out.now c.args.work.now c.requires.1 c.requires.0 _ _ _ w.settled _ c.in-Refused.is
+    (print_refused held held-load c.args.table.now c.args.out.now c.args.work.now c.requires.1 c.requires.0 _ _ _ w.settled _ c.in-Err.is
     c.refusal_line.ensures)
 
-pub returns-in-Length : goal.returns-in-Length
-returns-in-Length c =
+pub returns-in-Ok : goal.returns-in-Ok
+returns-in-Ok c =
     let w = paging_sized standard_size c.pages.ensures.paging in
     put_as (ap (λ (l : Classes). printing standard l c.args.table.now) held_is)
-    (print_written held held-load c.args.table.now c.args.out.now c.args.work.now c.requires.1 c.requires.0 _ _ _ w.settled _ c.in-Length.is)
+    (print_written held held-load c.args.table.now c.args.out.now c.args.work.now c.requires.1 c.requires.0 _ _ _ w.settled _ c.in-Ok.is)

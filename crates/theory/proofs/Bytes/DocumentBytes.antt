@@ -22,7 +22,8 @@ use Rattle.grammar.specs.Lists.{joined_of}
 use Rattle.grammar.specs.Limits.{Limits}
 use Rattle.grammar.specs.Names.{Classes}
 use Rattle.grammar.specs.Tree.{Tree, node, Forest, []ᵗ, ◌∷ᵗ◌, trees, depth, depth_of}
-use Rattle.grammar.specs.Outcome.{Outcome, given}
+use Rattle.std.specs.Prelude.{Result, Ok}
+use Rattle.grammar.specs.declared.Refusal.{Refusal}
 use Rattle.grammar.specs.declared.Refusal.TheVariants.{InputTooLong}
 use Rattle.grammar.specs.Fields.{Field, Fields, ◌then◌, fields_of, field_bytes}
 use Rattle.grammar.specs.ReadDocument.{
@@ -68,7 +69,7 @@ mutual
       ∙ ap (other_trees (suc (trees ts))) (tree_first t (nodes_of_all ts ++ ms))
       ∙ others_after ts ms
 
-pub tree_of_nodes : (d : Tree) → tree_of (nodes_of d) ≡ given d
+pub tree_of_nodes : (d : Tree) → tree_of (nodes_of d) ≡ Ok d
 unfolding tree_of forest_of
 tree_of_nodes d =
     let made : forest_of (nodes_of d) ≡ d ∷ᵗ []ᵗ = ap forest_of (sym (append-nil (nodes_of d))) ∙ tree_first d [] in
@@ -80,7 +81,7 @@ module _ (lim : Limits) (classes : Classes) where
   opened ns to_come = record { nodes = ns; to_come = to_come }
 
   -- the rest of a document, as bytes
-  abbrev read_on : Opened → List ℕ → Outcome (List Node)
+  abbrev read_on : Opened → List ℕ → Result (List Node) Refusal
   read_on o bytes = read_node_fields lim classes o (fields_of bytes)
 
   node_step : (it : Node) (ns : List Node) (n : ℕ) (outer : List ℕ) → NodeWithin lim classes it → length ns < lim.nodes
@@ -160,7 +161,7 @@ module _ (lim : Limits) (classes : Classes) where
         rest
         ∙ ap (λ (ms : List Node). read_on (opened ms (closed outer)) rest) (append_assoc ns (nodes_of t) (nodes_of_all ts))
 
-  end_step : (ns : List Node) → read_on (opened ns []) (field_bytes document_end_tag []) ≡ given ns
+  end_step : (ns : List Node) → read_on (opened ns []) (field_bytes document_end_tag []) ≡ Ok ns
   unfolding read_node_fields
   end_step ns =
       ap (read_on (opened ns [])) (sym (append-nil (field_bytes document_end_tag [])))
@@ -169,7 +170,7 @@ module _ (lim : Limits) (classes : Classes) where
       (λ (fs : Fields). read_node_fields lim classes (opened ns []) (record { tag = document_end_tag; value = [] } then fs))
       fields_empty
 
-  nodes_read_back : (d : Tree) → DocumentWithin lim classes d → read_nodes lim classes (document_bytes d) ≡ given (nodes_of d)
+  nodes_read_back : (d : Tree) → DocumentWithin lim classes d → read_nodes lim classes (document_bytes d) ≡ Ok (nodes_of d)
   unfolding read_nodes document_bytes closed
   nodes_read_back d h =
       let few = h.tree.nodes in
@@ -179,7 +180,7 @@ module _ (lim : Limits) (classes : Classes) where
       ∙ tree_read d [] 0 [] h.tree.each_node (omega arith) (omega arith) (field_bytes document_end_tag [])
       ∙ end_step (nodes_of d)
 
-  pub document_read_back : (d : Tree) → DocumentWithin lim classes d → read_document_file lim classes (document_bytes d) ≡ given d
+  pub document_read_back : (d : Tree) → DocumentWithin lim classes d → read_document_file lim classes (document_bytes d) ≡ Ok d
   unfolding read_document_file
   document_read_back d h =
       given_then (read_nodes lim classes (document_bytes d)) (nodes_of d) tree_of (nodes_read_back d h) ∙ tree_of_nodes d

@@ -25,7 +25,7 @@ use Rattle.grammar.specs.Lists.{joined_of}
 use Rattle.grammar.specs.Limits.{Limits}
 use Rattle.grammar.specs.Names.{Name, Classes}
 use Rattle.grammar.specs.Tree.{Tree, node, Forest, []ᵗ, ◌∷ᵗ◌, trees, depth, depth_of}
-use Rattle.grammar.specs.Outcome.{given}
+use Rattle.std.specs.Prelude.{Ok}
 use Rattle.grammar.specs.declared.Refusal.TheVariants.{InputTooLong, BadField, BadTree, BytesAfterEnd}
 use Rattle.grammar.specs.Fields.{Field, Fields, no_bytes, past_end, ◌then◌, fields_of, field_bytes}
 use Rattle.grammar.specs.ReadTable.{is_empty, bytes_left}
@@ -246,7 +246,7 @@ module _ (lim : Limits) (classes : Classes) where
       subst_more e w = go (subst (λ (m : Opened). Ends m front.rest ns) (sym e) w)
 
   ends : (fs : Fields) (o : Opened) (s : List ℕ) (ns : List Node) → Ready o.to_come → fields_of s ≡ fs
-      → read_node_fields lim classes o fs ≡ given ns → Ends o s ns
+      → read_node_fields lim classes o fs ≡ Ok ns → Ends o s ns
   unfolding read_node_fields
   ends no_bytes o s ns ready p e = let z : ◌≡◌ {A = ℕ} 0 1 = cc in absurd (omega arith)
   ends past_end o s ns ready p e = let z : ◌≡◌ {A = ℕ} 0 1 = cc in absurd (omega arith)
@@ -254,7 +254,7 @@ module _ (lim : Limits) (classes : Classes) where
       go (eqb f.tag document_end_tag) refl (fields_were s f fs p) (λ o' s' r' p' e'. ends fs o' s' ns r' p' e')
     where
       go : (b : Bool) → eqb f.tag document_end_tag ≡ b → Front s f fs
-          → ((o' : Opened) (s' : List ℕ) → Ready o'.to_come → fields_of s' ≡ fs → read_node_fields lim classes o' fs ≡ given ns
+          → ((o' : Opened) (s' : List ℕ) → Ready o'.to_come → fields_of s' ≡ fs → read_node_fields lim classes o' fs ≡ Ok ns
           → Ends o' s' ns)
           → Ends o s ns
       go true q front ih =
@@ -274,7 +274,7 @@ module _ (lim : Limits) (classes : Classes) where
           let ready_after = subst (λ (m : Opened). Ready m.to_come) r.result (after_ready r.it.children o.to_come ready) in
           ends_with_node o a.0 f fs s ns ready r front (ih a.0 front.rest ready_after (sym front.after) a.2)
 
-  module _ (bytes : List ℕ) (ns : List Node) (read : read_nodes lim classes bytes ≡ given ns) where
+  module _ (bytes : List ℕ) (ns : List Node) (read : read_nodes lim classes bytes ≡ Ok ns) where
     nodes_end : (length bytes ≤ lim.input) × Ends nothing_read bytes ns
     unfolding read_nodes
     nodes_end =
@@ -288,7 +288,7 @@ module _ (lim : Limits) (classes : Classes) where
         let (t, made, shallow) = root_filled w.later w.filled in
         (t, w.whole ∙ made, shallow)
 
-  module _ (bytes : List ℕ) (d : Tree) (read : read_document_file lim classes bytes ≡ given d) where
+  module _ (bytes : List ℕ) (d : Tree) (read : read_document_file lim classes bytes ≡ Ok d) where
     -- what was read: bytes few enough, and the nodes of the document
     record Was : Type 0 where
       nodes : List Node

@@ -11,7 +11,8 @@ use lib.Dec.{eqb, leb, ltb}
 use borrow.Author.Tests.{eqb-true, le-leb, lt-leb, le-ltb, leb-true, leb-false, ltb-false, not-false}
 use Rattle.grammar.specs.Limits.{Limits}
 use Rattle.grammar.specs.Names.{Classes, is_name}
-use Rattle.grammar.specs.Outcome.{given, ◌>>=◌, ◌>>◌, turn_back}
+use Rattle.std.specs.Prelude.{Ok}
+use Rattle.grammar.specs.Outcome.{◌>>=◌, ◌>>◌, turn_back}
 use Rattle.grammar.specs.declared.Refusal.TheVariants.{BadField, BadName, BadTree, BytesAfterEnd}
 use Rattle.grammar.specs.Fields.{Field, Fields, ◌then◌}
 use Rattle.grammar.specs.ReadTable.{is_empty, bytes_left}
@@ -68,7 +69,7 @@ module _ (lim : Limits) (classes : Classes) where
     pub to_come : is_empty o.to_come ≡ false
     pub result : with_node o it ≡ more
 
-  pub node_was : (o : Opened) (f : Field) (more : Opened) → read_node lim classes o f ≡ given more → NodeRead o f more
+  pub node_was : (o : Opened) (f : Field) (more : Opened) → read_node lim classes o f ≡ Ok more → NodeRead o f more
   unfolding read_node bad_node
   node_was o f more e = go f.value refl
     where
@@ -109,7 +110,7 @@ module _ (lim : Limits) (classes : Classes) where
             result = given_eq c.1;
           }
 
-  pub node_read : (o : Opened) (f : Field) (more : Opened) → NodeRead o f more → read_node lim classes o f ≡ given more
+  pub node_read : (o : Opened) (f : Field) (more : Opened) → NodeRead o f more → read_node lim classes o f ≡ Ok more
   unfolding read_node bad_node
   node_read o f more w =
       let k = w.it.children in
@@ -132,14 +133,14 @@ module _ (lim : Limits) (classes : Classes) where
       ∙ no_fault _ BadName _ (ap not h.name.rule)
       ∙ no_fault _ BadTree _
       (or_none (full || many || deep) (is_empty o.to_come) (or_none (full || many) deep (or_none full many roomy few) shallow) w.to_come)
-      ∙ ap (λ (b : Bool). given (with_node o (record { head = record { name = name; text = b }; children = k }))) (tag_tells text)
-      ∙ ap given w.result
+      ∙ ap (λ (b : Bool). Ok (with_node o (record { head = record { name = name; text = b }; children = k }))) (tag_tells text)
+      ∙ ap Ok w.result
 
   -- the end field, and any other
   pub end_field : (o : Opened) (f : Field) (rest : Fields) → eqb f.tag document_end_tag ≡ true
       → read_node_fields lim classes o (f then rest)
       ≡ (turn_back (not (is_empty f.value)) BadField
-      >> (turn_back (not (is_empty o.to_come)) BadTree >> (turn_back (bytes_left rest) BytesAfterEnd >> given o.nodes)))
+      >> (turn_back (not (is_empty o.to_come)) BadTree >> (turn_back (bytes_left rest) BytesAfterEnd >> Ok o.nodes)))
   unfolding read_node_fields
   end_field o f rest q = rw (q, read_node_fields)
 

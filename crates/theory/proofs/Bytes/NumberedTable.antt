@@ -13,9 +13,7 @@ use lib.ListN.{length, length-map, get_or}
 use lib.Dec.{eqb, ltb}
 use borrow.Author.Tests.{ltb-false}
 use Rattle.grammar.specs.Lists.{any_pass, all_distinct}
-use Rattle.grammar.specs.Limits.{Limits, LimitsAgree}
-use Rattle.grammar.specs.LimitSets.{limits_of}
-use Rattle.grammar.specs.declared.SizeLimits.{SizeLimits}
+use Rattle.grammar.specs.Limits.{Limits, LimitsAgree, limits_for}
 use Rattle.grammar.specs.Names.{Name, same_name, Classes}
 use Rattle.grammar.specs.Content.{Content, types_in, nesting}
 use Rattle.grammar.specs.Table.{Rule, Table, DistinctNames}
@@ -36,8 +34,8 @@ use Rattle.theory.proofs.Tables.SameRules.{SameRules, same_labelled}
 use Rattle.theory.proofs.Bytes.CountedTables.{RulesCounted, map_counted}
 
 -- the limits that a size sets agree, whatever its four numbers are
-pub sized_agree : (l : SizeLimits) → LimitsAgree (limits_of l)
-sized_agree l = record { labels = omega arith; starts = omega arith; rules = omega arith; children = omega arith }
+pub sized_agree : (rules nodes levels words : ℕ) → LimitsAgree (limits_for rules nodes levels words)
+sized_agree rules nodes levels words = record { labels = omega arith; starts = omega arith; rules = omega arith; children = omega arith }
 
 pub record Numbered (lim : Limits) (classes : Classes) (g : Table) : Type 0 where
   pub names : (n : Name) → Memᴰ n g.labels → NameWithin lim classes n

@@ -16,7 +16,8 @@ use Rattle.grammar.specs.Limits.{Limits}
 use Rattle.grammar.specs.Names.{Name, same_name, Classes, is_name}
 use Rattle.grammar.specs.Content.{Content, nesting}
 use Rattle.grammar.specs.Table.{Rule, Table}
-use Rattle.grammar.specs.Outcome.{given, ◌>>=◌, ◌>>◌, turn_back}
+use Rattle.std.specs.Prelude.{Ok}
+use Rattle.grammar.specs.Outcome.{◌>>=◌, ◌>>◌, turn_back}
 use Rattle.grammar.specs.declared.Refusal.TheVariants.{
   BadField,
   BadName,
@@ -50,7 +51,7 @@ use Rattle.theory.proofs.Bytes.OutcomeLaws.{given_then, no_fault, was_given, had
 use Rattle.theory.proofs.Contents.ContentBytes.{content_has_bytes, expression_of_lem, expression_was}
 
 pub content_read : (lim : Limits) (c : Content) → is_proper lim c ≡ true → nesting c ≤ lim.nesting
-    → read_content lim (content_bytes c) ≡ given c
+    → read_content lim (content_bytes c) ≡ Ok c
 unfolding read_content
 content_read lim c proper nests =
     let e = ap expression_of (sym (append-nil (content_bytes c))) ∙ expression_of_lem c [] in
@@ -58,12 +59,12 @@ content_read lim c proper nests =
     ∙ no_fault (not (is_proper lim c)) BadContent _ (ap not proper)
     ∙ no_fault (ltb lim.nesting (nesting c)) NestedTooDeep _ (le-ltb lim.nesting (nesting c) nests)
 
-whole_was : (p : Parsed Content) (c : Content) → whole p ≡ given c → p ≡ just (c, [])
+whole_was : (p : Parsed Content) (c : Content) → whole p ≡ Ok c → p ≡ just (c, [])
 whole_was nothing c e = let z : ◌≡◌ {A = ℕ} 0 1 = cc in absurd (omega arith)
 whole_was (just (d, [])) c e = rw (given_eq e)
 whole_was (just (d, b ∷ rest)) c e = let z : ◌≡◌ {A = ℕ} 0 1 = cc in absurd (omega arith)
 
-pub content_was : (lim : Limits) (bytes : List ℕ) (c : Content) → read_content lim bytes ≡ given c
+pub content_was : (lim : Limits) (bytes : List ℕ) (c : Content) → read_content lim bytes ≡ Ok c
     → (bytes ≡ content_bytes c) × (is_proper lim c ≡ true) × (nesting c ≤ lim.nesting)
 unfolding read_content
 content_was lim bytes c e =
@@ -71,7 +72,7 @@ content_was lim bytes c e =
     let p = had_no_fault (not (is_proper lim r.0)) BadContent _ c r.2 in
     let q = had_no_fault (ltb lim.nesting (nesting r.0)) NestedTooDeep _ c p.1 in
     let same : r.0 ≡ c = given_eq q.1 in (
-      expression_was bytes c [] (whole_was (expression_of bytes) c (r.1 ∙ ap given same)) ∙ append-nil (content_bytes c),
+      expression_was bytes c [] (whole_was (expression_of bytes) c (r.1 ∙ ap Ok same)) ∙ append-nil (content_bytes c),
       not-false (is_proper lim c) (rw same at p.0),
       ltb-false lim.nesting (nesting c) (rw same at q.0),
     )
@@ -101,7 +102,7 @@ module _ (lim : Limits) where
     pub known : start < lim.types
     pub result : with_start g start ≡ more
 
-  pub start_was : (g : Table) (value : List ℕ) (more : Table) → read_start lim g value ≡ given more → StartRead g value more
+  pub start_was : (g : Table) (value : List ℕ) (more : Table) → read_start lim g value ≡ Ok more → StartRead g value more
   unfolding read_start
   start_was g [] more e = let z : ◌≡◌ {A = ℕ} 0 1 = cc in absurd (omega arith)
   start_was g (k ∷ []) more e =
@@ -120,7 +121,7 @@ module _ (lim : Limits) where
       }
   start_was g (k ∷ b ∷ rest) more e = let z : ◌≡◌ {A = ℕ} 0 1 = cc in absurd (omega arith)
 
-  pub start_read : (g : Table) (value : List ℕ) (more : Table) → StartRead g value more → read_start lim g value ≡ given more
+  pub start_read : (g : Table) (value : List ℕ) (more : Table) → StartRead g value more → read_start lim g value ≡ Ok more
   unfolding read_start
   start_read g value more w =
       ap (read_start lim g) w.byte
@@ -128,7 +129,7 @@ module _ (lim : Limits) where
       ∙ no_fault _ Repeated _ w.new
       ∙ no_fault _ TooMany _ (lt-leb lim.starts (length g.starts) w.room)
       ∙ no_fault _ OutOfRange _ (lt-leb lim.types w.start w.known)
-      ∙ ap given w.result
+      ∙ ap Ok w.result
 
   -- a rule
   pub record RuleRead (g : Table) (text : Bool) (value : List ℕ) (more : Table) : Type 0 where
@@ -139,7 +140,7 @@ module _ (lim : Limits) where
     pub room : length g.rules < lim.rules
     pub result : with_rule g rule ≡ more
 
-  pub rule_was : (g : Table) (text : Bool) (value : List ℕ) (more : Table) → read_rule lim g text value ≡ given more
+  pub rule_was : (g : Table) (text : Bool) (value : List ℕ) (more : Table) → read_rule lim g text value ≡ Ok more
       → RuleRead g text value more
   unfolding read_rule rule_bytes
   rule_was g text [] more e = let z : ◌≡◌ {A = ℕ} 0 1 = cc in absurd (omega arith)
@@ -170,7 +171,7 @@ module _ (lim : Limits) where
       }
 
   pub rule_read : (g : Table) (text : Bool) (value : List ℕ) (more : Table) → RuleRead g text value more
-      → read_rule lim g text value ≡ given more
+      → read_rule lim g text value ≡ Ok more
   unfolding read_rule rule_bytes
   rule_read g text value more w =
       let r = w.rule in
@@ -185,7 +186,7 @@ module _ (lim : Limits) where
       ∙ no_fault _ TooMany _ (lt-leb lim.rules (length g.rules) w.room)
       ∙ no_fault _ OutOfRange _ (or_none (leb lim.types r.type) (leb (length g.labels) r.label) type_known label_known)
       ∙ given_then (read_content lim c) r.content _ (content_read lim r.content h.content.proper h.content.nests)
-      ∙ ap given w.result
+      ∙ ap Ok w.result
 
 pub rule_not_end : (text : Bool) → eqb (rule_tag text) table_end_tag ≡ false
 rule_not_end true = refl
@@ -201,7 +202,7 @@ module _ (lim : Limits) (classes : Classes) where
     pub room : length g.labels < lim.labels
     pub result : with_label g value ≡ more
 
-  pub label_was : (g : Table) (value : List ℕ) (more : Table) → read_label lim classes g value ≡ given more → LabelRead g value more
+  pub label_was : (g : Table) (value : List ℕ) (more : Table) → read_label lim classes g value ≡ Ok more → LabelRead g value more
   unfolding read_label
   label_was g value more e =
       let first = is_empty g.starts && is_empty g.rules in
@@ -226,7 +227,7 @@ module _ (lim : Limits) (classes : Classes) where
         result = given_eq d.1;
       }
 
-  pub label_read : (g : Table) (value : List ℕ) (more : Table) → LabelRead g value more → read_label lim classes g value ≡ given more
+  pub label_read : (g : Table) (value : List ℕ) (more : Table) → LabelRead g value more → read_label lim classes g value ≡ Ok more
   unfolding read_label
   label_read g value more w =
       let no_starts = is_empty g.starts in
@@ -241,7 +242,7 @@ module _ (lim : Limits) (classes : Classes) where
       ∙ no_fault _ BadName _ (ap not w.name.rule)
       ∙ no_fault _ Repeated _ w.new
       ∙ no_fault _ TooMany _ (lt-leb lim.labels (length g.labels) w.room)
-      ∙ ap given w.result
+      ∙ ap Ok w.result
 
   -- a rule's field is read as a rule, with its mark
   pub rule_field_lem : (g : Table) (text : Bool) (value : List ℕ)
@@ -253,7 +254,7 @@ module _ (lim : Limits) (classes : Classes) where
   -- the end field, and any other
   pub end_field : (g : Table) (f : Field) (rest : Fields) → eqb f.tag table_end_tag ≡ true
       → read_table_fields lim classes g (f then rest)
-      ≡ (turn_back (not (is_empty f.value)) BadField >> (turn_back (bytes_left rest) BytesAfterEnd >> given g))
+      ≡ (turn_back (not (is_empty f.value)) BadField >> (turn_back (bytes_left rest) BytesAfterEnd >> Ok g))
   unfolding read_table_fields
   end_field g f rest q = rw (q, read_table_fields)
 

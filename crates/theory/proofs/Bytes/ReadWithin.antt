@@ -15,7 +15,7 @@ use Rattle.grammar.specs.Lists.{all_distinct, joined_of}
 use Rattle.grammar.specs.Limits.{Limits}
 use Rattle.grammar.specs.Names.{same_name, Classes}
 use Rattle.grammar.specs.Table.{Rule, Table, empty_table}
-use Rattle.grammar.specs.Outcome.{given}
+use Rattle.std.specs.Prelude.{Ok}
 use Rattle.grammar.specs.declared.Refusal.TheVariants.{InputTooLong, BadField, BytesAfterEnd}
 use Rattle.grammar.specs.Fields.{Field, Fields, no_bytes, past_end, ◌then◌, fields_of, field_bytes}
 use Rattle.grammar.specs.ReadTable.{
@@ -144,7 +144,7 @@ module _ (lim : Limits) (classes : Classes) where
                 };
           }
 
-  field_adds : (g : Table) (f : Field) (more : Table) → read_table_field lim classes g f ≡ given more
+  field_adds : (g : Table) (f : Field) (more : Table) → read_table_field lim classes g f ≡ Ok more
       → FieldAdds g f.tag f.value more
   unfolding read_table_field
   field_adds g f more e =
@@ -180,7 +180,7 @@ module _ (lim : Limits) (classes : Classes) where
     same : AreBytes s → s ≡ spelled
     fits : FieldsFit g → FieldsFit more
 
-  ends : (fs : Fields) (g : Table) (s : List ℕ) (more : Table) → fields_of s ≡ fs → read_table_fields lim classes g fs ≡ given more
+  ends : (fs : Fields) (g : Table) (s : List ℕ) (more : Table) → fields_of s ≡ fs → read_table_fields lim classes g fs ≡ Ok more
       → FieldsEnd g s more
   unfolding read_table_fields table_bytes fields_bytes
   ends no_bytes g s more p e = let z : ◌≡◌ {A = ℕ} 0 1 = cc in absurd (omega arith)
@@ -189,7 +189,7 @@ module _ (lim : Limits) (classes : Classes) where
       go (eqb f.tag table_end_tag) refl (fields_were s f fs p) (λ g' s' p' e'. ends fs g' s' more p' e')
     where
       go : (b : Bool) → eqb f.tag table_end_tag ≡ b → Front s f fs
-          → ((g' : Table) (s' : List ℕ) → fields_of s' ≡ fs → read_table_fields lim classes g' fs ≡ given more → FieldsEnd g' s' more)
+          → ((g' : Table) (s' : List ℕ) → fields_of s' ≡ fs → read_table_fields lim classes g' fs ≡ Ok more → FieldsEnd g' s' more)
           → FieldsEnd g s more
       go true q front ih =
           let a = had_no_fault (not (is_empty f.value)) BadField _ more (sym (end_field lim classes g f fs q) ∙ e) in
@@ -243,7 +243,7 @@ module _ (lim : Limits) (classes : Classes) where
         rules = record { each = λ r m. elim m [ ]; few = omega arith };
       }
 
-  module _ (bytes : List ℕ) (g : Table) (read : read_table lim classes bytes ≡ given g) where
+  module _ (bytes : List ℕ) (g : Table) (read : read_table lim classes bytes ≡ Ok g) where
     short_enough : (length bytes ≤ lim.input) × FieldsEnd empty_table bytes g
     unfolding read_table
     short_enough =

@@ -16,7 +16,7 @@ use Rattle.grammar.specs.Names.{Name, same_name, SameName, Classes}
 use Rattle.grammar.specs.Content.{Content, types_in}
 use Rattle.grammar.specs.Tree.{Tree, node}
 use Rattle.grammar.specs.Table.{Rule, Table}
-use Rattle.grammar.specs.Outcome.{given}
+use Rattle.std.specs.Prelude.{Ok}
 use Rattle.grammar.specs.declared.Refusal.TheVariants.{ResultTooLarge}
 use Rattle.grammar.specs.WithinLimits.{NameWithin, TableWithin, TreeWithin}
 use Rattle.grammar.specs.UsedLabels.{used_labels, with_used_labels}
@@ -179,7 +179,7 @@ module _ (lim : Limits) (classes : Classes) (agree : LimitsAgree lim) (d : Tree)
             omega arith);
       }
 
-  pub sample_within : (g : Table) → sample_table lim d ≡ given g → TableWithin lim classes g
+  pub sample_within : (g : Table) → sample_table lim d ≡ Ok g → TableWithin lim classes g
   unfolding sample_table of_size
   sample_within g e =
       let (small, same) = had_no_fault (too_large lim (sample d)) ResultTooLarge _ g e in

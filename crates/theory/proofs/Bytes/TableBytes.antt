@@ -14,7 +14,8 @@ use Rattle.grammar.specs.Lists.{all_distinct, joined_of}
 use Rattle.grammar.specs.Limits.{Limits}
 use Rattle.grammar.specs.Names.{Name, same_name, Classes}
 use Rattle.grammar.specs.Table.{Rule, Table, empty_table}
-use Rattle.grammar.specs.Outcome.{Outcome, given}
+use Rattle.std.specs.Prelude.{Result, Ok}
+use Rattle.grammar.specs.declared.Refusal.{Refusal}
 use Rattle.grammar.specs.declared.Refusal.TheVariants.{InputTooLong}
 use Rattle.grammar.specs.Fields.{Fields, ◌then◌, fields_of, field_bytes}
 use Rattle.grammar.specs.ReadTable.{label_tag, start_tag, rule_tag, table_end_tag, read_table_field, read_table_fields, read_table}
@@ -43,12 +44,12 @@ pub record RulesFit (lim : Limits) (labels : ℕ) (rules : List Rule) : Type 0 w
 
 module _ (lim : Limits) (classes : Classes) where
   -- the rest of a table, as bytes
-  abbrev read_on : Table → List ℕ → Outcome Table
+  abbrev read_on : Table → List ℕ → Result Table Refusal
   read_on g bytes = read_table_fields lim classes g (fields_of bytes)
 
   -- a field that is read, and the bytes after it
   field_read : (tag : ℕ) (value : List ℕ) (g more : Table) → eqb tag table_end_tag ≡ false
-      → read_table_field lim classes g (record { tag = tag; value = value }) ≡ given more
+      → read_table_field lim classes g (record { tag = tag; value = value }) ≡ Ok more
       → (rest : List ℕ) → read_on g (field_bytes tag value ++ rest) ≡ read_on more rest
   field_read tag value g more q e rest =
       ap (read_table_fields lim classes g) (fields_of_lem tag value rest)
@@ -145,7 +146,7 @@ module _ (lim : Limits) (classes : Classes) where
       let tag = rule_tag r.text in
       field_read tag (rule_bytes r) now more (rule_not_end r.text) (rule_field_lem lim classes now r.text (rule_bytes r) ∙ read)
 
-  end_step : (g : Table) → read_on g (field_bytes table_end_tag []) ≡ given g
+  end_step : (g : Table) → read_on g (field_bytes table_end_tag []) ≡ Ok g
   unfolding read_table_fields
   end_step g =
       ap (read_on g) (sym (append-nil (field_bytes table_end_tag [])))
@@ -153,7 +154,7 @@ module _ (lim : Limits) (classes : Classes) where
       ∙ ap (λ (fs : Fields). read_table_fields lim classes g (record { tag = table_end_tag; value = [] } then fs)) fields_empty
 
   fields_read_back : (g : Table) → LabelsFit lim classes g.labels → StartsFit lim g.starts → RulesFit lim (length g.labels) g.rules
-      → read_on empty_table (table_bytes g) ≡ given g
+      → read_on empty_table (table_bytes g) ≡ Ok g
   unfolding table_bytes
   fields_read_back g ls ss rs =
       let labels = joined_of (field_bytes label_tag) g.labels in
@@ -182,7 +183,7 @@ module _ (lim : Limits) (classes : Classes) where
       end
       ∙ end_step g
 
-  pub table_read_back : (g : Table) → TableWithin lim classes g → read_table lim classes (table_bytes g) ≡ given g
+  pub table_read_back : (g : Table) → TableWithin lim classes g → read_table lim classes (table_bytes g) ≡ Ok g
   unfolding read_table
   table_read_back g h =
       no_fault (ltb lim.input (length (table_bytes g))) InputTooLong _ (le-ltb lim.input (length (table_bytes g)) h.size)

@@ -24,7 +24,8 @@ use Rattle.grammar.specs.Lists.{is_in, same_numbers}
 use Rattle.grammar.specs.Limits.{Limits}
 use Rattle.grammar.specs.Names.{Name, Classes, is_name, never_in_names, Loads}
 use Rattle.grammar.specs.Tree.{Tree, node, Forest, []ᵗ, ◌∷ᵗ◌, trees, depth, depth_of}
-use Rattle.grammar.specs.Outcome.{Outcome, given}
+use Rattle.std.specs.Prelude.{Result, Ok}
+use Rattle.grammar.specs.declared.Refusal.{Refusal}
 use Rattle.grammar.specs.declared.Refusal.TheVariants.{InputTooLong, BadEndTag}
 use Rattle.grammar.specs.WriteDocument.{nodes_of, nodes_of_all}
 use Rattle.grammar.specs.WithinLimits.{TreeWithin}
@@ -125,12 +126,12 @@ module _ (rest : List ℕ) where
 
 module _ (lim : Limits) (classes : Classes) (loaded : Loads classes) where
   -- the rest of a text, as bytes
-  abbrev read_on : Elements → List ℕ → Outcome Tree
+  abbrev read_on : Elements → List ℕ → Result Tree Refusal
   read_on e bytes = read_tags lim classes e (tags_of bytes)
 
   -- a tag that is written, at the front of a text
   next_tag : (inside rest : List ℕ) (tag : Tag) (e more : Elements) → front_tag inside ≡ just (tag, rest)
-      → read_tag lim classes e tag ≡ given more
+      → read_tag lim classes e tag ≡ Ok more
       → read_on e (less_than ∷ inside) ≡ read_on more rest
   unfolding read_tags past_white is_white
   next_tag inside rest tag e more q r =
@@ -170,7 +171,7 @@ module _ (lim : Limits) (classes : Classes) (loaded : Loads classes) where
       (sym (plain _ (Memᴰ.head refl)))
 
   closes : (name : Name) (us : Forest) (outer : List Element) (root : Option Tree) (n : ℕ)
-      → read_tag lim classes (inside name us outer root n) (end_tag name) ≡ given (closing (inside name us outer root n))
+      → read_tag lim classes (inside name us outer root n) (end_tag name) ≡ Ok (closing (inside name us outer root n))
   unfolding read_tag names_innermost
   closes name us outer root n = no_fault (not (same_numbers name name)) BadEndTag _ (ap not (same_numbers_refl name))
 
@@ -234,14 +235,14 @@ module _ (lim : Limits) (classes : Classes) (loaded : Loads classes) where
         ∙ ap (λ (k : ℕ). read_on (inside name (beside (followed_by us t) ts) outer root k) rest) counted
 
   -- the text ends behind the root
-  root_ends : (d : Tree) → Each Plain (nodes_of d) → read_on (with_tree d no_elements) [] ≡ given d
+  root_ends : (d : Tree) → Each Plain (nodes_of d) → read_on (with_tree d no_elements) [] ≡ Ok d
   unfolding read_tags root_of closing nodes_of past_white
   root_ends (node h ts) plain =
       ap (read_tags lim classes (with_tree (node h ts) no_elements)) (tags_end [] refl)
-      ∙ ap (λ (text : Bool). given (node (record { name = h.name; text = text }) ts)) (sym (plain _ (Memᴰ.head refl)))
+      ∙ ap (λ (text : Bool). Ok (node (record { name = h.name; text = text }) ts)) (sym (plain _ (Memᴰ.head refl)))
 
   pub text_read_back : (d : Tree) → TreeWithin lim classes d → Each Plain (nodes_of d) → length (text_bytes d) ≤ lim.input
-      → read_text lim classes (text_bytes d) ≡ given d
+      → read_text lim classes (text_bytes d) ≡ Ok d
   unfolding read_text full
   text_read_back d within plain size =
       let few = within.nodes in

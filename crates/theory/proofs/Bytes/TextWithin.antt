@@ -14,7 +14,7 @@ use borrow.Author.Tests.{leb-true, leb-false, le-leb, lt-leb, not-false}
 use Rattle.grammar.specs.Limits.{Limits}
 use Rattle.grammar.specs.Names.{Name, Classes, is_name}
 use Rattle.grammar.specs.Tree.{Tree, trees, depth, depth_of}
-use Rattle.grammar.specs.Outcome.{given}
+use Rattle.std.specs.Prelude.{Ok}
 use Rattle.grammar.specs.declared.Refusal.TheVariants.{InputTooLong, BadName, BadTree, BadEndTag}
 use Rattle.grammar.specs.ReadDocument.{Node}
 use Rattle.grammar.specs.WriteDocument.{nodes_of, nodes_of_all}
@@ -107,7 +107,7 @@ module _ (lim : Limits) (classes : Classes) where
     pub level : length e.opened < lim.levels
     pub not_full : full lim e ≡ false
 
-  pub element_was : (e : Elements) (name : Name) (more : Elements) → read_element lim classes e name ≡ given more
+  pub element_was : (e : Elements) (name : Name) (more : Elements) → read_element lim classes e name ≡ Ok more
       → Allowed e name × (opening name e ≡ more)
   unfolding read_element bad_element
   element_was e name more w =
@@ -132,7 +132,7 @@ module _ (lim : Limits) (classes : Classes) where
         given_eq b.1,
       )
 
-  pub element_read : (e : Elements) (name : Name) → Allowed e name → read_element lim classes e name ≡ given (opening name e)
+  pub element_read : (e : Elements) (name : Name) → Allowed e name → read_element lim classes e name ≡ Ok (opening name e)
   unfolding read_element bad_element
   element_read e name a =
       let fits = is_name classes name && leb (length name) lim.name in
@@ -239,24 +239,24 @@ module _ (lim : Limits) (classes : Classes) where
           k.root_levels
           a
 
-  tag_kept : (e : Elements) (tag : Tag) (more : Elements) → read_tag lim classes e tag ≡ given more → Kept e → Kept more
+  tag_kept : (e : Elements) (tag : Tag) (more : Elements) → read_tag lim classes e tag ≡ Ok more → Kept e → Kept more
   unfolding read_tag
   tag_kept e (start_tag name) more w k =
       let (allowed, q) = element_was e name more w in
       subst Kept q (kept_opening e name allowed k)
   tag_kept e (empty_tag name) more w k =
-      let (inside, p, q) = was_given (read_element lim classes e name) (λ x. given (closing x)) more w in
+      let (inside, p, q) = was_given (read_element lim classes e name) (λ x. Ok (closing x)) more w in
       let (allowed, r) = element_was e name inside p in
       subst Kept (given_eq q) (kept_closing inside (subst Kept r (kept_opening e name allowed k)))
   tag_kept e (end_tag name) more w k =
-      subst Kept (given_eq (had_no_fault (not (names_innermost name e)) BadEndTag (given (closing e)) more w).1) (kept_closing e k)
+      subst Kept (given_eq (had_no_fault (not (names_innermost name e)) BadEndTag (Ok (closing e)) more w).1) (kept_closing e k)
 
   -- what is read in the end
   pub record TreeKept (d : Tree) : Type 0 where
     pub within : TreeWithin lim classes d
     pub plain : Each Plain (nodes_of d)
 
-  root_kept : (e : Elements) (d : Tree) → root_of e ≡ given d → Kept e → TreeKept d
+  root_kept : (e : Elements) (d : Tree) → root_of e ≡ Ok d → Kept e → TreeKept d
   unfolding root_of nodes_read nodes_of_root nodes_opened
   root_kept e d w k = go e.opened refl e.root refl
     where
@@ -281,7 +281,7 @@ module _ (lim : Limits) (classes : Classes) where
             plain = λ n m. (each n m).1;
           })
 
-  tags_kept : (ts : Tags) (e : Elements) (d : Tree) → read_tags lim classes e ts ≡ given d → Kept e → TreeKept d
+  tags_kept : (ts : Tags) (e : Elements) (d : Tree) → read_tags lim classes e ts ≡ Ok d → Kept e → TreeKept d
   unfolding read_tags
   tags_kept no_more e d w k = root_kept e d w k
   tags_kept not_allowed e d w k = let z : ◌≡◌ {A = ℕ} 0 1 = cc in absurd (omega arith)
@@ -289,7 +289,7 @@ module _ (lim : Limits) (classes : Classes) where
       let (more, p, q) = was_given (read_tag lim classes e tag) (λ x. read_tags lim classes x ts) d w in
       tags_kept ts more d q (tag_kept e tag more p k)
 
-  pub text_kept : (bytes : List ℕ) (d : Tree) → read_text lim classes bytes ≡ given d → TreeKept d
+  pub text_kept : (bytes : List ℕ) (d : Tree) → read_text lim classes bytes ≡ Ok d → TreeKept d
   unfolding read_text
   text_kept bytes d w =
       tags_kept (tags_of bytes) no_elements d (had_no_fault (ltb lim.input (length bytes)) InputTooLong _ d w).1 kept_none

@@ -18,7 +18,7 @@ use lib.ListN.{length, length-append}
 use borrow.Author.Tests.{ltb-true}
 use Rattle.grammar.specs.Lists.{joined_of}
 use Rattle.grammar.specs.Limits.{Limits}
-use Rattle.grammar.specs.LimitSets.{limits_of, Within}
+use Rattle.grammar.specs.LimitSets.{limits_of}
 use Rattle.grammar.specs.declared.SizeLimits.{SizeLimits}
 use Rattle.grammar.specs.Names.{Classes, Loads}
 use Rattle.grammar.specs.Content.{
@@ -61,9 +61,9 @@ pub record BytesAgree (lim : Limits) (classes : Classes) : Type 0 where
   pub name_bytes : length classes ≤ 256
 
 -- those that the code has room for, under any classes that load
-pub within_bytes : {l : SizeLimits} → Within l → {classes : Classes} → Loads classes → BytesAgree (limits_of l) classes
-within_bytes w {classes} load =
-    let few = w.rules in
+pub within_bytes : (l : SizeLimits) → {classes : Classes} → Loads classes → BytesAgree (limits_of l) classes
+within_bytes l {classes} load =
+    let few = l.rules_fit in
     let all = all_classed classes load in
     record {
       types = omega arith;

@@ -13,7 +13,7 @@ use mathlib.Core.Bool.{true}
 use mathlib.Core.Path.{◌≡◌, refl}
 use borrow.Author.Tests.{ltb-true, lt-ltb}
 use Rattle.grammar.specs.Limits.{Limits, NoneAbove, limits_for, small, standard, large}
-use Rattle.grammar.specs.LimitSets.{limits_of, Within}
+use Rattle.grammar.specs.LimitSets.{limits_of}
 use Rattle.grammar.specs.declared.SizeLimits.{SizeLimits}
 use Rattle.grammar.specs.Names.{Classes, Name}
 use Rattle.grammar.specs.Content.{
@@ -179,6 +179,6 @@ pub standard_below_large : NoneAbove standard large
 unfolding standard
 standard_below_large = site_below_large 64 1024 64 16384 (omega arith) (omega arith) (omega arith)
 
--- limits that the code has room for
-pub within_large : {l : SizeLimits} → Within l → NoneAbove (limits_of l) large
-within_large {l} w = site_below_large l.rules l.nodes l.levels l.words w.rules w.nodes w.levels
+-- the limits of any size
+pub within_large : (l : SizeLimits) → NoneAbove (limits_of l) large
+within_large l = site_below_large l.rules l.nodes l.levels l.words l.rules_fit l.nodes_fit l.levels_fit

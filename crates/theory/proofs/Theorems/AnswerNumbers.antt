@@ -5,7 +5,8 @@ use mathlib.Core.Bool.{Bool, true, false}
 use mathlib.Core.List.{List, [], ◌∷◌}
 use mathlib.Core.Path.{◌≡◌, refl, sym, ◌∙◌, ap}
 use lib.ListN.{length, get_or}
-use Rattle.grammar.specs.Outcome.{Outcome, given, refused, number}
+use Rattle.std.specs.Prelude.{Result, Ok, Err}
+use Rattle.grammar.specs.Outcome.{number}
 use Rattle.grammar.specs.Answers.{
   Numbers,
   refused_by,
@@ -39,7 +40,6 @@ use Rattle.grammar.specs.declared.Refusal.TheVariants.{
   BadEndTag,
   BadClasses,
 }
-use Rattle.grammar.specs.declared.Written.TheVariants.{Length, Refused as Unwritten}
 
 pub number_positive : (r : Refusal) → 0 < number r
 unfolding number
@@ -114,46 +114,46 @@ pub number_same : (q r : Refusal) → number q ≡ number r → q ≡ r
 number_same q r e = sym (number_back q) ∙ ap refusal_of e ∙ number_back r
 
 -- the numbers of an answer are those of its outcome
-pub reading_numbers_lem : {A : Type 0} (o : Outcome A) → reading_numbers (reading o) ≡ numbers_of (λ a. 1) o
+pub reading_numbers_lem : {A : Type 0} (o : Result A Refusal) → reading_numbers (reading o) ≡ numbers_of (λ a. 1) o
 unfolding reading_numbers reading numbers_of
-reading_numbers_lem (given a) = refl
-reading_numbers_lem (refused r) = refl
+reading_numbers_lem (Ok a) = refl
+reading_numbers_lem (Err r) = refl
 
-pub verdict_numbers_lem : (o : Outcome Bool) → verdict_numbers (verdict o) ≡ numbers_of bit o
+pub verdict_numbers_lem : (o : Result Bool Refusal) → verdict_numbers (verdict o) ≡ numbers_of bit o
 unfolding verdict_numbers verdict numbers_of bit
-verdict_numbers_lem (given true) = refl
-verdict_numbers_lem (given false) = refl
-verdict_numbers_lem (refused r) = refl
+verdict_numbers_lem (Ok true) = refl
+verdict_numbers_lem (Ok false) = refl
+verdict_numbers_lem (Err r) = refl
 
-pub written_numbers_lem : (o : Outcome (List ℕ)) → written_numbers (written o) ≡ numbers_of length o
+pub written_numbers_lem : (o : Result (List ℕ) Refusal) → written_numbers (written o) ≡ numbers_of length o
 unfolding written_numbers written numbers_of
-written_numbers_lem (given bytes) = refl
-written_numbers_lem (refused r) = refl
+written_numbers_lem (Ok bytes) = refl
+written_numbers_lem (Err r) = refl
 
 -- and settle it
 module _ {A : Type 0} (value : A → ℕ) where
-  pub numbers_given : (o : Outcome A) → (numbers_of value o).refusal ≡ 0 → (a : A) × (o ≡ given a)
+  pub numbers_given : (o : Result A Refusal) → (numbers_of value o).refusal ≡ 0 → (a : A) × (o ≡ Ok a)
   unfolding numbers_of refused_by
-  numbers_given (given a) e = (a, refl)
-  numbers_given (refused r) e = let p = number_positive r in absurd (omega arith)
+  numbers_given (Ok a) e = (a, refl)
+  numbers_given (Err r) e = let p = number_positive r in absurd (omega arith)
 
-  pub numbers_refused : (o : Outcome A) (r : Refusal) → numbers_of value o ≡ refused_by r → o ≡ refused r
+  pub numbers_refused : (o : Result A Refusal) (r : Refusal) → numbers_of value o ≡ refused_by r → o ≡ Err r
   unfolding numbers_of refused_by
-  numbers_refused (given a) r e =
+  numbers_refused (Ok a) r e =
       let p = number_positive r in
       let z : 0 ≡ number r = ap (λ (n : Numbers). n.refusal) e in
       absurd (omega arith)
-  numbers_refused (refused q) r e = ap refused (number_same q r (ap (λ (n : Numbers). n.refusal) e))
+  numbers_refused (Err q) r e = ap Err (number_same q r (ap (λ (n : Numbers). n.refusal) e))
 
-pub was_written : (o : Outcome (List ℕ)) (n : ℕ) → written_numbers (Length n) ≡ numbers_of length o
-    → (bytes : List ℕ) × (o ≡ given bytes) × (n ≡ length bytes)
+pub was_written : (o : Result (List ℕ) Refusal) (n : ℕ) → written_numbers (Ok n) ≡ numbers_of length o
+    → (bytes : List ℕ) × (o ≡ Ok bytes) × (n ≡ length bytes)
 unfolding written_numbers numbers_of refused_by
-was_written (given bytes) n e = (bytes, refl, ap (λ (m : Numbers). m.value) e)
-was_written (refused r) n e =
+was_written (Ok bytes) n e = (bytes, refl, ap (λ (m : Numbers). m.value) e)
+was_written (Err r) n e =
     let p = number_positive r in
     let z : 0 ≡ number r = ap (λ (m : Numbers). m.refusal) e in
     absurd (omega arith)
 
-pub was_unwritten : (o : Outcome (List ℕ)) (r : Refusal) → written_numbers (Unwritten r) ≡ numbers_of length o → o ≡ refused r
+pub was_unwritten : (o : Result (List ℕ) Refusal) (r : Refusal) → written_numbers (Err r) ≡ numbers_of length o → o ≡ Err r
 unfolding written_numbers
 was_unwritten o r e = numbers_refused length o r (sym e)

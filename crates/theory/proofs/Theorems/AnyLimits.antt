@@ -1,10 +1,11 @@
 -- The limits that the code has room for, and what is promised under them.
 --     size_within       the three sizes are within
 --     others_within     and so is any other set with the words of the largest and no limit above its limits, zeros included
+--     size_there, others_there    and there is a value of each of these limits
 --     demands           under any four limits an answer that is settled decides membership and kind, and writes pages, a sample or a least table
 use native.Mathlib.Omega.{arith}
 use mathlib.Core.List.{List}
-use mathlib.Core.Path.{◌≡◌, ap}
+use mathlib.Core.Path.{◌≡◌, refl}
 use Prim.Native.Nat.{ℕ, ◌≤◌}
 use Rattle.grammar.specs.Limits.{Limits, limits_for, small, standard, large}
 use Rattle.grammar.specs.LimitSets.{size_limits, limits_of, Within}
@@ -21,23 +22,43 @@ use Rattle.grammar.specs.declared.Source.{Source}
 use Rattle.theory.proofs.Bytes.NumberedTable.{sized_agree}
 use Rattle.theory.proofs.Theorems.CallPromises.{membership, kind_test, paging, sampling, widening}
 
-four : (l : SizeLimits) (rules nodes levels words : ℕ) → limits_of l ≡ limits_for rules nodes levels words
-    → rules ≤ 128 → nodes ≤ 2048 → levels ≤ 64 → 12288 ≤ words → Within l
-four l rules nodes levels words e few_rules few_nodes few_levels some_words =
-    let r = ap (λ (k : Limits). k.rules) e in
-    let n = ap (λ (k : Limits). k.nodes) e in
-    let v = ap (λ (k : Limits). k.levels) e in
-    let w = ap (λ (k : Limits). k.words) e in
-    record { rules = omega arith; nodes = omega arith; levels = omega arith; words = omega arith }
+-- a value of these limits
+abbrev pub Sized : Limits → Type 0
+Sized lim = (l : SizeLimits) × (limits_of l ≡ lim)
+
+four : (rules nodes levels words : ℕ) → rules ≤ 128 → nodes ≤ 2048 → levels ≤ 64 → 12288 ≤ words → Sized (limits_for rules nodes levels words)
+four rules nodes levels words few_rules few_nodes few_levels some_words = (
+  record {
+    rules = rules;
+    nodes = nodes;
+    levels = levels;
+    words = words;
+    rules_fit = few_rules;
+    nodes_fit = few_nodes;
+    levels_fit = few_levels;
+    words_suffice = some_words;
+  },
+  refl,
+)
+
+-- a value is within, by what its type asks
+within : (l : SizeLimits) → Within l
+within l = record { rules = l.rules_fit; nodes = l.nodes_fit; levels = l.levels_fit; words = l.words_suffice }
 
 pub size_within : (size : Size) (l : SizeLimits) → limits_of l ≡ size_limits size → Within l
-unfolding size_limits small standard large
-size_within Small l e = four l 16 256 16 12288 e (omega arith) (omega arith) (omega arith) (omega arith)
-size_within Standard l e = four l 64 1024 64 16384 e (omega arith) (omega arith) (omega arith) (omega arith)
-size_within Large l e = four l 128 2048 64 32768 e (omega arith) (omega arith) (omega arith) (omega arith)
+size_within size l e = within l
 
 pub others_within : (l : SizeLimits) → l.words ≡ 32768 → l.rules ≤ 128 → l.nodes ≤ 2048 → l.levels ≤ 64 → Within l
-others_within l words rules nodes levels = record { rules = rules; nodes = nodes; levels = levels; words = omega arith }
+others_within l words rules nodes levels = within l
+
+pub size_there : (size : Size) → Sized (size_limits size)
+unfolding size_limits small standard large
+size_there Small = four 16 256 16 12288 (omega arith) (omega arith) (omega arith) (omega arith)
+size_there Standard = four 64 1024 64 16384 (omega arith) (omega arith) (omega arith) (omega arith)
+size_there Large = four 128 2048 64 32768 (omega arith) (omega arith) (omega arith) (omega arith)
+
+pub others_there : (rules nodes levels : ℕ) → rules ≤ 128 → nodes ≤ 2048 → levels ≤ 64 → Sized (limits_for rules nodes levels 32768)
+others_there rules nodes levels few_rules few_nodes few_levels = four rules nodes levels 32768 few_rules few_nodes few_levels (omega arith)
 
 -- Every answer that is as the definition gives it keeps the demands.
 pub record Demands (lim : Limits) (classes : Classes) : Type 0 where
@@ -55,13 +76,13 @@ pub record Demands (lim : Limits) (classes : Classes) : Type 0 where
       → left ≡ wrote lim (widened lim classes kind source old addition out work) out work
       → Widening lim classes kind source old addition out work left
 
-pub demands : (l : SizeLimits) (classes : Classes) → Demands (limits_of l) classes
-demands l classes =
-    let lim : Limits = limits_of l in
+pub demands : (rules nodes levels words : ℕ) (classes : Classes) → Demands (limits_for rules nodes levels words) classes
+demands rules nodes levels words classes =
+    let lim : Limits = limits_for rules nodes levels words in
     record {
       lets_in = membership lim classes;
       is_of_kind = kind_test lim classes;
       prints = paging lim classes;
-      samples = sampling lim classes (sized_agree l);
-      widens = widening lim classes (sized_agree l);
+      samples = sampling lim classes (sized_agree rules nodes levels words);
+      widens = widening lim classes (sized_agree rules nodes levels words);
     }

@@ -18,7 +18,9 @@ use Rattle.grammar.specs.Table.{Table}
 use Rattle.grammar.specs.Derivation.{LetsIn}
 use Rattle.grammar.specs.Kinds.{Kind, local, single_type, OfKind}
 use Rattle.grammar.specs.Least.{Addition, Added}
-use Rattle.grammar.specs.Outcome.{Outcome, given, refused, ◌>>=◌, ◌>>◌, turn_back}
+use Rattle.std.specs.Prelude.{Result, Ok, Err}
+use Rattle.grammar.specs.Outcome.{◌>>=◌, ◌>>◌, turn_back}
+use Rattle.grammar.specs.declared.Refusal.{Refusal}
 use Rattle.grammar.specs.ReadTable.{read_table}
 use Rattle.grammar.specs.Documents.{read_document}
 use Rattle.grammar.specs.WriteTable.{table_bytes}
@@ -93,11 +95,11 @@ unfolding page_layout
 page_widths = (omega arith, omega arith, omega arith)
 
 -- reading with the working memory lent
-module _ (lim : Limits) (work : List ℕ) {A : Type 0} (o : Outcome A) where
-  abbrev pub lent : Outcome A
+module _ (lim : Limits) (work : List ℕ) {A : Type 0} (o : Result A Refusal) where
+  abbrev pub lent : Result A Refusal
   lent = turn_back (work_too_short lim work) WorkTooShort >> o
 
-  pub lent_short : length work < lim.words → lent ≡ refused WorkTooShort
+  pub lent_short : length work < lim.words → lent ≡ Err WorkTooShort
   unfolding work_too_short
   lent_short h = ap (λ (b : Bool). turn_back b WorkTooShort >> o) (lt-ltb (length work) lim.words h)
 
@@ -106,18 +108,18 @@ module _ (lim : Limits) (work : List ℕ) {A : Type 0} (o : Outcome A) where
   lent_enough h = no_fault (work_too_short lim work) WorkTooShort o (le-ltb (length work) lim.words h)
 
 -- reading under the classes lent
-module _ (classes : Classes) {A : Type 0} (o : Outcome A) where
-  abbrev pub loaded : Outcome A
+module _ (classes : Classes) {A : Type 0} (o : Result A Refusal) where
+  abbrev pub loaded : Result A Refusal
   loaded = turn_back (not (loads classes)) BadClasses >> o
 
   pub loaded_is : Loads classes → loaded ≡ o
   loaded_is l = no_fault (not (loads classes)) BadClasses o (ap not l)
 
-  pub unloaded_is : loads classes ≡ false → loaded ≡ refused BadClasses
+  pub unloaded_is : loads classes ≡ false → loaded ≡ Err BadClasses
   unloaded_is e = ap (λ (b : Bool). turn_back (not b) BadClasses >> o) e
 
   -- what follows follows under the classes
-  pub loaded_then : {B : Type 0} (next : A → Outcome B) → (loaded >>= next) ≡ (turn_back (not (loads classes)) BadClasses >> (o >>= next))
+  pub loaded_then : {B : Type 0} (next : A → Result B Refusal) → (loaded >>= next) ≡ (turn_back (not (loads classes)) BadClasses >> (o >>= next))
   loaded_then next = go (loads classes)
     where
       go : (b : Bool) → ((turn_back (not b) BadClasses >> o) >>= next) ≡ (turn_back (not b) BadClasses >> (o >>= next))
@@ -125,51 +127,51 @@ module _ (classes : Classes) {A : Type 0} (o : Outcome A) where
       go false = refl
 
 -- and with both
-module _ (lim : Limits) (classes : Classes) (work : List ℕ) {A : Type 0} (o : Outcome A) where
+module _ (lim : Limits) (classes : Classes) (work : List ℕ) {A : Type 0} (o : Result A Refusal) where
   pub lent-loaded : lim.words ≤ length work → Loads classes → lent lim work (loaded classes o) ≡ o
   lent-loaded h l = lent_enough lim work (loaded classes o) h ∙ loaded_is classes o l
 
   -- what was given in the end was read, under classes that load
-  lent_read : {B : Type 0} (next : A → Outcome B) (b : B) → (lent lim work (loaded classes o) >>= next) ≡ given b
-      → Loads classes × ((a : A) × (o ≡ given a) × (next a ≡ given b))
+  lent_read : {B : Type 0} (next : A → Result B Refusal) (b : B) → (lent lim work (loaded classes o) >>= next) ≡ Ok b
+      → Loads classes × ((a : A) × (o ≡ Ok a) × (next a ≡ Ok b))
   lent_read next b e =
       let (x, q, n) = was_given (lent lim work (loaded classes o)) next b e in
       let under = (had_no_fault (work_too_short lim work) WorkTooShort (loaded classes o) x q).1 in
       let (no_fault_found, read) = had_no_fault (not (loads classes)) BadClasses o x under in
       (not-false (loads classes) no_fault_found, (x, read, n))
 
-  lent_given : {B : Type 0} (next : A → Outcome B) (b : B) → (lent lim work (loaded classes o) >>= next) ≡ given b
-      → Loads classes × ((a : A) → o ≡ given a → next a ≡ given b)
+  lent_given : {B : Type 0} (next : A → Result B Refusal) (b : B) → (lent lim work (loaded classes o) >>= next) ≡ Ok b
+      → Loads classes × ((a : A) → o ≡ Ok a → next a ≡ Ok b)
   lent_given next b e =
       let (l, (x, read, n)) = lent_read next b e in
-      (l, λ a p. subst (λ (y : A). next y ≡ given b) (given_eq (sym read ∙ p)) n)
+      (l, λ a p. subst (λ (y : A). next y ≡ Ok b) (given_eq (sym read ∙ p)) n)
 
 -- what is written had room, as a table's bytes have, and stands at the front of the output
-room_bytes : (out bytes written : List ℕ) → room_for out bytes ≡ given written → bytes ≡ written
+room_bytes : (out bytes written : List ℕ) → room_for out bytes ≡ Ok written → bytes ≡ written
 unfolding room_for
 room_bytes out bytes written e =
-    given_eq (had_no_fault (ltb (length out) (length bytes)) OutputTooShort (given bytes) written e).1
+    given_eq (had_no_fault (ltb (length out) (length bytes)) OutputTooShort (Ok bytes) written e).1
 
-written_bytes : (out : List ℕ) (g : Table) (bytes : List ℕ) → written_to out g ≡ given bytes → table_bytes g ≡ bytes
+written_bytes : (out : List ℕ) (g : Table) (bytes : List ℕ) → written_to out g ≡ Ok bytes → table_bytes g ≡ bytes
 unfolding written_to
 written_bytes out g bytes e = room_bytes out (table_bytes g) bytes e
 
-module _ (lim : Limits) (o : Outcome (List ℕ)) (out work : List ℕ) (left : After Numbers) (settled : left ≡ wrote lim o out work) where
+module _ (lim : Limits) (o : Result (List ℕ) Refusal) (out work : List ℕ) (left : After Numbers) (settled : left ≡ wrote lim o out work) where
   wrote_numbers : left.answer ≡ numbers_of length o
   unfolding wrote
   wrote_numbers = ap (λ (a : After Numbers). a.answer) settled
 
   -- the bytes of a call that gave no refusal
-  wrote_bytes : left.answer.refusal ≡ 0 → (o ≡ given (take left.answer.value left.out))
+  wrote_bytes : left.answer.refusal ≡ 0 → (o ≡ Ok (take left.answer.value left.out))
   unfolding wrote numbers_of out_after
   wrote_bytes z =
       let (bytes, e) = numbers_given length o (ap (λ (n : Numbers). n.refusal) (sym wrote_numbers) ∙ z) in
       let value : left.answer.value ≡ length bytes =
       ap (λ (n : Numbers). n.value) (wrote_numbers ∙ ap (numbers_of length) e) in
       let front : left.out ≡ bytes ++ drop (length bytes) out =
-      ap (λ (a : After Numbers). a.out) settled ∙ ap (λ (x : Outcome (List ℕ)). out_after x out) e in
+      ap (λ (a : After Numbers). a.out) settled ∙ ap (λ (x : Result (List ℕ) Refusal). out_after x out) e in
       e
-      ∙ ap (λ (l : List ℕ). given l)
+      ∙ ap (λ (l : List ℕ). Ok l)
       (sym (ap (λ (n : ℕ). take n left.out) value ∙ ap (take (length bytes)) front ∙ take-append_seam bytes (drop (length bytes) out)))
 
 module _ (lim : Limits) (classes : Classes) where
@@ -183,9 +185,9 @@ module _ (lim : Limits) (classes : Classes) where
         decides = λ g d p q h l.
             decided (lets_in g d) (lets_in_lem g d) left.answer
             (ap (λ (a : After Numbers). a.answer) s
-            ∙ ap (λ (o : Outcome Table). numbers_of bit (o >>= λ g. (read_document lim classes format document >>= λ d. given (lets_in g d))))
+            ∙ ap (λ (o : Result Table Refusal). numbers_of bit (o >>= λ g. (read_document lim classes format document >>= λ d. Ok (lets_in g d))))
             (lent-loaded lim classes work (read_table lim classes table) h l ∙ p)
-            ∙ ap (λ (o : Outcome Tree). numbers_of bit (o >>= λ d. given (lets_in g d))) q);
+            ∙ ap (λ (o : Result Tree Refusal). numbers_of bit (o >>= λ d. Ok (lets_in g d))) q);
       }
 
   pub kind_test : (kind : Kind) (table work : List ℕ) (left : After Numbers)
@@ -197,7 +199,7 @@ module _ (lim : Limits) (classes : Classes) where
         decides = λ g p h l.
             decided (is_of_kind kind g) (of_kind kind g) left.answer
             (ap (λ (a : After Numbers). a.answer) s
-            ∙ ap (λ (o : Outcome Table). numbers_of bit (o >>= λ g. given (is_of_kind kind g)))
+            ∙ ap (λ (o : Result Table Refusal). numbers_of bit (o >>= λ g. Ok (is_of_kind kind g)))
             (lent-loaded lim classes work (read_table lim classes table) h l ∙ p));
       }
 
@@ -217,7 +219,7 @@ module _ (lim : Limits) (classes : Classes) where
       }
 
   -- a widening of its inputs' bytes, once working memory and classes are lent
-  abbrev pub from_bytes : Kind → Source → List ℕ → List ℕ → List ℕ → Outcome (List ℕ)
+  abbrev pub from_bytes : Kind → Source → List ℕ → List ℕ → List ℕ → Result (List ℕ) Refusal
   from_bytes kind source old addition out =
       read_table lim classes old
       >>= λ g. (read_addition lim classes source addition >>= λ a. (widen lim kind g a >>= λ r. written_to out r))
@@ -227,13 +229,13 @@ module _ (lim : Limits) (classes : Classes) where
   unfolding widened table_reads
   widened_lent kind source old addition out work h l =
       ap
-      (λ (o : Outcome Table). o >>= λ g. (read_addition lim classes source addition >>= λ a. (widen lim kind g a >>= λ r. written_to out r)))
+      (λ (o : Result Table Refusal). o >>= λ g. (read_addition lim classes source addition >>= λ a. (widen lim kind g a >>= λ r. written_to out r)))
       (lent-loaded lim classes work (read_table lim classes old) h l)
 
   -- a widening that gave a table read both of its inputs
   pub widening_read : (kind : Kind) (source : Source) (old addition out work : List ℕ) (left : After Numbers)
       → Widening lim classes kind source old addition out work left → left.answer.refusal ≡ 0
-      → ((g : Table) × (read_table lim classes old ≡ given g)) × ((a : Addition) × (read_addition lim classes source addition ≡ given a))
+      → ((g : Table) × (read_table lim classes old ≡ Ok g)) × ((a : Addition) × (read_addition lim classes source addition ≡ Ok a))
   unfolding widened table_reads
   widening_read kind source old addition out work left w z =
       let bytes = take left.answer.value left.out in
@@ -247,7 +249,7 @@ module _ (lim : Limits) (classes : Classes) where
   -- and so did making a sample
   pub sampling_read : (format : Format) (document out work : List ℕ) (left : After Numbers)
       → Sampling lim classes format document out work left → left.answer.refusal ≡ 0
-      → (d : Tree) × (read_document lim classes format document ≡ given d)
+      → (d : Tree) × (read_document lim classes format document ≡ Ok d)
   unfolding document_sample document_reads
   sampling_read format document out work left w z =
       let (l, (d, p, n)) =
@@ -271,17 +273,17 @@ module _ (lim : Limits) (classes : Classes) where
               let (g, q, w) = was_given (sample_table lim d) (λ g. written_to out g) bytes f in
               ap (read_table lim classes) (sym (written_bytes out g bytes w))
               ∙ sample_read_back lim classes agree d (tree_within lim classes format document d p) g q
-              ∙ ap (λ (x : Table). given x) (sampled lim d g q);
+              ∙ ap (λ (x : Table). Ok x) (sampled lim d g q);
           lets_in = λ d p. sample_lets_in d;
         }
 
     module _ (kind : Kind) (source : Source) (old addition out work : List ℕ) where
-      abbrev outcome : Outcome (List ℕ)
+      abbrev outcome : Result (List ℕ) Refusal
       outcome = widened lim classes kind source old addition out work
 
-      module _ (g : Table) (a : Addition) (p : read_table lim classes old ≡ given g) (q : read_addition lim classes source addition ≡ given a) where
+      module _ (g : Table) (a : Addition) (p : read_table lim classes old ≡ Ok g) (q : read_addition lim classes source addition ≡ Ok a) where
         -- what a widening writes is least
-        writes_least : (bytes : List ℕ) → outcome ≡ given bytes → WritesLeast lim classes kind g a bytes
+        writes_least : (bytes : List ℕ) → outcome ≡ Ok bytes → WritesLeast lim classes kind g a bytes
         unfolding widened table_reads
         writes_least bytes e =
             let f =
@@ -300,20 +302,20 @@ module _ (lim : Limits) (classes : Classes) where
             ∙ given_then (read_table lim classes old) g
             (λ g. (read_addition lim classes source addition >>= λ a. (widen lim kind g a >>= λ r. written_to out r)))
             p
-            ∙ ap (λ (o : Outcome Addition). o >>= λ a. (widen lim kind g a >>= λ r. written_to out r)) q
+            ∙ ap (λ (o : Result Addition Refusal). o >>= λ a. (widen lim kind g a >>= λ r. written_to out r)) q
 
         -- 13 comes from widening alone
-        writing_thirteen : (r : Table) → written_to out r ≡ refused NoDocument → ⊥
+        writing_thirteen : (r : Table) → written_to out r ≡ Err NoDocument → ⊥
         unfolding written_to
         writing_thirteen r e = go (ltb (length out) (length (table_bytes r))) e
           where
-            go : (b : Bool) → (turn_back b OutputTooShort >> given (table_bytes r)) ≡ refused NoDocument → ⊥
+            go : (b : Bool) → (turn_back b OutputTooShort >> Ok (table_bytes r)) ≡ Err NoDocument → ⊥
             go true e = let z : ◌≡◌ {A = ℕ} 0 1 = cc in omega arith
             go false e = let z : ◌≡◌ {A = ℕ} 0 1 = cc in omega arith
 
-        was_thirteen : (o : Outcome Table) → (o >>= written_to out) ≡ refused NoDocument → o ≡ refused NoDocument
-        was_thirteen (refused r) e = cc
-        was_thirteen (given r) e = absurd (writing_thirteen r e)
+        was_thirteen : (o : Result Table Refusal) → (o >>= written_to out) ≡ Err NoDocument → o ≡ Err NoDocument
+        was_thirteen (Err r) e = cc
+        was_thirteen (Ok r) e = absurd (writing_thirteen r e)
 
         module _ (left : After Numbers) (s : left ≡ wrote lim outcome out work) (h : lim.words ≤ length work)
             (l : Loads classes) where
@@ -329,7 +331,7 @@ module _ (lim : Limits) (classes : Classes) where
                 wrote_numbers lim outcome out work left s
                 ∙ ap (numbers_of length)
                 (widens h l
-                ∙ ap (λ (o : Outcome Table). o >>= written_to out) ((thirteen lim classes agree kind source old addition g a p q).1 none)),
+                ∙ ap (λ (o : Result Table Refusal). o >>= written_to out) ((thirteen lim classes agree kind source old addition g a p q).1 none)),
           )
 
       pub widening : (left : After Numbers) → left ≡ wrote lim outcome out work → Widening lim classes kind source old addition out work left

@@ -10,7 +10,7 @@ use Rattle.grammar.specs.Table.{Table, empty_table}
 use Rattle.grammar.specs.Derivation.{LetsIn}
 use Rattle.grammar.specs.Kinds.{Kind, local, single_type}
 use Rattle.grammar.specs.Least.{by_table}
-use Rattle.grammar.specs.Outcome.{given}
+use Rattle.std.specs.Prelude.{Ok}
 use Rattle.grammar.specs.Answers.{number_after}
 use Rattle.grammar.specs.ReadTable.{read_table}
 use Rattle.grammar.specs.ReadDocument.{read_document_file}
@@ -40,12 +40,12 @@ use Rattle.theory.proofs.Theorems.CallPromises.{widened_lent}
 
 -- the table that widening g by E to a kind gives
 pub record WidenedByE (kind : Kind) (g result : Table) : Type 0 where
-  pub gives : widen standard kind g (by_table empty_table) ≡ given result
+  pub gives : widen standard kind g (by_table empty_table) ≡ Ok result
 
 pub record PaperTheorem : Type 0 where
   pub p1_length : length p1_bytes ≡ 17
-  pub p1_reads : read_table standard ascii_classes p1_bytes ≡ given p1_table
-  pub p2_reads : read_document_file standard ascii_classes p2_bytes ≡ given p2_document
+  pub p1_reads : read_table standard ascii_classes p1_bytes ≡ Ok p1_table
+  pub p2_reads : read_document_file standard ascii_classes p2_bytes ≡ Ok p2_document
   pub p2_let_in : LetsIn p1_table p2_document
   pub p3_table : number_after (read_table standard ascii_classes []) ≡ 3
   pub p3_document : number_after (read_document_file standard ascii_classes []) ≡ 3

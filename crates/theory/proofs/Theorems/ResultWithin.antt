@@ -14,7 +14,7 @@ use Rattle.grammar.specs.Tree.{Tree}
 use Rattle.grammar.specs.Table.{Table}
 use Rattle.grammar.specs.Kinds.{Kind}
 use Rattle.grammar.specs.Least.{by_document}
-use Rattle.grammar.specs.Outcome.{given}
+use Rattle.std.specs.Prelude.{Ok}
 use Rattle.grammar.specs.ReadTable.{read_table}
 use Rattle.grammar.specs.WriteTable.{table_bytes}
 use Rattle.grammar.specs.WithinLimits.{NameWithin, TableWithin, TreeWithin}
@@ -40,7 +40,7 @@ module _ (lim : Limits) (classes : Classes) (agree : LimitsAgree lim) where
     union_named : (n : Name) → Memᴰ n reduced.labels → NameWithin lim classes n
     union_named n m = ⊎_elim (old_within.names n) (addition_within.names n) (union_name lim old addition n m)
 
-    module _ (result : Table) (e : widen_by_table lim kind old addition ≡ given result) where
+    module _ (result : Table) (e : widen_by_table lim kind old addition ≡ Ok result) where
       pub result_within : TableWithin lim classes result
       result_within =
           let w = widened lim kind old addition result e in
@@ -55,7 +55,7 @@ module _ (lim : Limits) (classes : Classes) (agree : LimitsAgree lim) where
           (finished_labels (form lim kind reduced))
           w.small)
 
-      pub result_read_back : read_table lim classes (table_bytes result) ≡ given result
+      pub result_read_back : read_table lim classes (table_bytes result) ≡ Ok result
       result_read_back = table_read_back lim classes result result_within
 
       pub result_bytes : BytesAgree lim classes → AreBytes (table_bytes result)
@@ -63,22 +63,22 @@ module _ (lim : Limits) (classes : Classes) (agree : LimitsAgree lim) where
 
   -- a document's sample, and a widening by a document
   module _ (d : Tree) (document : TreeWithin lim classes d) where
-    module _ (g : Table) (e : sample_table lim d ≡ given g) where
-      pub sample_read_back : read_table lim classes (table_bytes g) ≡ given g
+    module _ (g : Table) (e : sample_table lim d ≡ Ok g) where
+      pub sample_read_back : read_table lim classes (table_bytes g) ≡ Ok g
       sample_read_back = table_read_back lim classes g (sample_within lim classes agree d document g e)
 
       pub sample_bytes : BytesAgree lim classes → AreBytes (table_bytes g)
       sample_bytes bytes = table_bytes_small lim classes bytes g (sample_within lim classes agree d document g e)
 
     module _ (kind : Kind) (old : Table) (old_within : TableWithin lim classes old) (result : Table)
-        (e : widen lim kind old (by_document d) ≡ given result) where
+        (e : widen lim kind old (by_document d) ≡ Ok result) where
       pub document_result_within : TableWithin lim classes result
       unfolding widen
       document_result_within =
           let (g, p, q) = was_given (sample_table lim d) (λ g. widen_by_table lim kind old g) result e in
           result_within kind old g old_within (sample_within lim classes agree d document g p) result q
 
-      pub document_result_read_back : read_table lim classes (table_bytes result) ≡ given result
+      pub document_result_read_back : read_table lim classes (table_bytes result) ≡ Ok result
       document_result_read_back = table_read_back lim classes result document_result_within
 
       pub document_result_bytes : BytesAgree lim classes → AreBytes (table_bytes result)

@@ -10,7 +10,8 @@ use Rattle.grammar.specs.Limits.{LimitsAgree, standard}
 use Rattle.grammar.specs.Names.{ascii_classes}
 use Rattle.grammar.specs.Derivation.{LetsIn}
 use Rattle.grammar.specs.Kinds.{Kind, local, single_type}
-use Rattle.grammar.specs.Outcome.{Outcome, given}
+use Rattle.std.specs.Prelude.{Result, Ok}
+use Rattle.grammar.specs.declared.Refusal.{Refusal}
 use Rattle.grammar.specs.ReadTable.{read_table}
 use Rattle.grammar.specs.Widen.{widen}
 use Rattle.grammar.specs.Calls.{read_addition, widened, written_to}
@@ -29,14 +30,14 @@ work : List ℕ
 work = replicate 16384 0
 
 -- a table's bytes widened by P1's table, into room for it
-abbrev by_p1 : Kind → List ℕ → Outcome (List ℕ)
+abbrev by_p1 : Kind → List ℕ → Result (List ℕ) Refusal
 by_p1 kind old = from_bytes standard ascii_classes kind a_table old p1_bytes p1_bytes
 
 agree : LimitsAgree standard
 unfolding standard
 agree = record { labels = omega arith; starts = omega arith; rules = omega arith; children = omega arith }
 
-widens : (kind : Kind) (old : List ℕ) → by_p1 kind old ≡ given p1_bytes → Widens standard ascii_classes kind old (table_input p1_bytes) p1_bytes
+widens : (kind : Kind) (old : List ℕ) → by_p1 kind old ≡ Ok p1_bytes → Widens standard ascii_classes kind old (table_input p1_bytes) p1_bytes
 unfolding standard work
 widens kind old e =
     widens_given standard ascii_classes kind agree old (table_input p1_bytes) p1_bytes work p1_bytes
@@ -45,12 +46,12 @@ widens kind old e =
     ascii_load
     ∙ e)
 
-p1_by_p1 : (kind : Kind) → by_p1 kind p1_bytes ≡ given p1_bytes
+p1_by_p1 : (kind : Kind) → by_p1 kind p1_bytes ≡ Ok p1_bytes
 unfolding read_table read_addition widen standard ascii_classes p1_bytes written_to
 p1_by_p1 local = refl
 p1_by_p1 single_type = refl
 
-e_by_p1 : (kind : Kind) → by_p1 kind empty_input.bytes ≡ given p1_bytes
+e_by_p1 : (kind : Kind) → by_p1 kind empty_input.bytes ≡ Ok p1_bytes
 unfolding read_table read_addition widen standard ascii_classes p1_bytes written_to
 e_by_p1 local = refl
 e_by_p1 single_type = refl

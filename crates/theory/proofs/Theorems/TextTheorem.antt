@@ -13,7 +13,7 @@ use lib.ListN.{length}
 use Rattle.grammar.specs.Limits.{Limits, NoneAbove}
 use Rattle.grammar.specs.Names.{Classes, Loads}
 use Rattle.grammar.specs.Tree.{Tree}
-use Rattle.grammar.specs.Outcome.{given}
+use Rattle.std.specs.Prelude.{Ok}
 use Rattle.grammar.specs.ReadDocument.{Node, tree_of, read_document_file}
 use Rattle.grammar.specs.WriteDocument.{nodes_of, document_bytes}
 use Rattle.grammar.specs.ReadText.{read_text}
@@ -30,12 +30,12 @@ abbrev pub Unmarked : Tree → Type 0
 Unmarked d = (n : Node) → Memᴰ n (nodes_of d) → n.head.text ≡ false
 
 module _ (lim : Limits) (classes : Classes) where
-  module _ (bytes : List ℕ) (d : Tree) (read : read_text lim classes bytes ≡ given d) where
-    pub text_nodes : tree_of (nodes_of d) ≡ given d
+  module _ (bytes : List ℕ) (d : Tree) (read : read_text lim classes bytes ≡ Ok d) where
+    pub text_nodes : tree_of (nodes_of d) ≡ Ok d
     text_nodes = tree_of_nodes d
 
     pub text_as_file : (lim' : Limits) → NoneAbove lim lim' → length (document_bytes d) ≤ lim'.input
-        → read_document_file lim' classes (document_bytes d) ≡ given d
+        → read_document_file lim' classes (document_bytes d) ≡ Ok d
     text_as_file lim' above size =
         document_read_back lim' classes d (record { tree = tree_roomier above (text_kept lim classes bytes d read).within; size = size })
 
@@ -43,8 +43,8 @@ module _ (lim : Limits) (classes : Classes) where
     text_unmarked = (text_kept lim classes bytes d read).plain
 
   module _ (loaded : Loads classes) (d : Tree) (unmarked : Unmarked d) (size : length (text_bytes d) ≤ lim.input) where
-    pub tree_as_text : TreeWithin lim classes d → read_text lim classes (text_bytes d) ≡ given d
+    pub tree_as_text : TreeWithin lim classes d → read_text lim classes (text_bytes d) ≡ Ok d
     tree_as_text within = text_read_back lim classes loaded d within unmarked size
 
-    pub file_as_text : (bytes : List ℕ) → read_document_file lim classes bytes ≡ given d → read_text lim classes (text_bytes d) ≡ given d
+    pub file_as_text : (bytes : List ℕ) → read_document_file lim classes bytes ≡ Ok d → read_text lim classes (text_bytes d) ≡ Ok d
     file_as_text bytes read = tree_as_text (document_within lim classes bytes d read).tree

@@ -16,7 +16,8 @@ use Rattle.grammar.specs.Table.{Table}
 use Rattle.grammar.specs.Derivation.{LetsIn}
 use Rattle.grammar.specs.Kinds.{Kind}
 use Rattle.grammar.specs.Least.{by_table, by_document, LeastWidening}
-use Rattle.grammar.specs.Outcome.{given, refused, ◌>>◌, turn_back}
+use Rattle.std.specs.Prelude.{Ok, Err}
+use Rattle.grammar.specs.Outcome.{◌>>◌, turn_back}
 use Rattle.grammar.specs.declared.Refusal.TheVariants.{NoDocument, ResultTooLarge}
 use Rattle.grammar.specs.WithinLimits.{TableWithin}
 use Rattle.grammar.specs.ReadTable.{is_empty}
@@ -41,22 +42,22 @@ pub record Widened (lim : Limits) (kind : Kind) (old addition result : Table) : 
   pub small : TableSmall lim (unsized lim kind old addition)
   pub few : length (form lim kind (reduced_union lim old addition)).rules ≤ lim.types
 
-pub widened : (lim : Limits) (kind : Kind) (old addition result : Table) → widen_by_table lim kind old addition ≡ given result
+pub widened : (lim : Limits) (kind : Kind) (old addition result : Table) → widen_by_table lim kind old addition ≡ Ok result
     → Widened lim kind old addition result
 unfolding widen_by_table of_size
 widened lim kind old addition result e =
     let a = had_no_fault (is_empty (reduced_union lim old addition).starts) NoDocument (of_size lim (unsized lim kind old addition)) result e in
-    let b = had_no_fault (too_large lim (unsized lim kind old addition)) ResultTooLarge (given (unsized lim kind old addition)) result a.1 in
+    let b = had_no_fault (too_large lim (unsized lim kind old addition)) ResultTooLarge (Ok (unsized lim kind old addition)) result a.1 in
     let small = table_small lim (unsized lim kind old addition) b.0 in
     let rules = finished_rules (form lim kind (reduced_union lim old addition)) in
     record { made = sym (given_eq b.1); small = small; few = subst (λ (n : ℕ). n ≤ lim.types) rules small.few }
 
 -- a table of any size is given or refused by 14
-not_thirteen : (lim : Limits) (g : Table) → of_size lim g ≡ refused NoDocument → ⊥
+not_thirteen : (lim : Limits) (g : Table) → of_size lim g ≡ Err NoDocument → ⊥
 unfolding of_size
 not_thirteen lim g e = go (too_large lim g) e
   where
-    go : (b : Bool) → (turn_back b ResultTooLarge >> given g) ≡ refused NoDocument → ⊥
+    go : (b : Bool) → (turn_back b ResultTooLarge >> Ok g) ≡ Err NoDocument → ⊥
     go true e = let z : ◌≡◌ {A = ℕ} 0 1 = cc in omega arith
     go false e = let z : ◌≡◌ {A = ℕ} 0 1 = cc in omega arith
 
@@ -66,13 +67,13 @@ module _ (lim : Limits) (classes : Classes) (kind : Kind) (old addition : Table)
   reduced = reduced_union lim old addition
 
   -- the result is the least form of the reduced union
-  pub result_least : (result : Table) → widen_by_table lim kind old addition ≡ given result → LeastForm kind reduced result
+  pub result_least : (result : Table) → widen_by_table lim kind old addition ≡ Ok result → LeastForm kind reduced result
   result_least result e =
       let w = widened lim kind old addition result e in
       let f = least_form lim kind reduced (reduced_union_lem lim classes old addition old_within addition_within) w.few in
       subst (λ (g : Table). LeastForm kind reduced g) (sym w.made) (finished_least kind reduced (form lim kind reduced) f)
 
-  pub widened_by_table : (result : Table) → widen_by_table lim kind old addition ≡ given result
+  pub widened_by_table : (result : Table) → widen_by_table lim kind old addition ≡ Ok result
       → LeastWidening kind old (by_table addition) result
   widened_by_table result e =
       let f = (result_least result e).least in
@@ -90,31 +91,31 @@ module _ (lim : Limits) (classes : Classes) (kind : Kind) (old addition : Table)
       }
 
   -- 13 is given just where neither table lets in a document
-  pub no_document : (widen_by_table lim kind old addition ≡ refused NoDocument) ↔ ((d : Tree) → LetsIn old d ⊎ LetsIn addition d → ⊥)
+  pub no_document : (widen_by_table lim kind old addition ≡ Err NoDocument) ↔ ((d : Tree) → LetsIn old d ⊎ LetsIn addition d → ⊥)
   unfolding widen_by_table
   no_document = (
     λ e d l. (union_nothing lim classes old addition old_within addition_within).0 (no_starts reduced.starts (is_empty reduced.starts) refl e) d l,
     λ h. rw ((union_nothing lim classes old addition old_within addition_within).1 h) refl,
   )
     where
-      no_starts : (ks : List ℕ) (b : Bool) → is_empty ks ≡ b → (turn_back b NoDocument >> of_size lim (unsized lim kind old addition)) ≡ refused NoDocument → ks ≡ []
+      no_starts : (ks : List ℕ) (b : Bool) → is_empty ks ≡ b → (turn_back b NoDocument >> of_size lim (unsized lim kind old addition)) ≡ Err NoDocument → ks ≡ []
       no_starts [] b q e = refl
       no_starts (k ∷ ks) true q e = absurd (false≢true q)
       no_starts (k ∷ ks) false q e = absurd (not_thirteen lim (unsized lim kind old addition) e)
 
 -- the table of a document is its sample
-pub sampled : (lim : Limits) (d : Tree) (g : Table) → sample_table lim d ≡ given g → g ≡ sample d
+pub sampled : (lim : Limits) (d : Tree) (g : Table) → sample_table lim d ≡ Ok g → g ≡ sample d
 unfolding sample_table of_size
-sampled lim d g e = sym (given_eq (had_no_fault (too_large lim (sample d)) ResultTooLarge (given (sample d)) g e).1)
+sampled lim d g e = sym (given_eq (had_no_fault (too_large lim (sample d)) ResultTooLarge (Ok (sample d)) g e).1)
 
-pub sampled_thirteen : (lim : Limits) (d : Tree) → sample_table lim d ≡ refused NoDocument → ⊥
+pub sampled_thirteen : (lim : Limits) (d : Tree) → sample_table lim d ≡ Err NoDocument → ⊥
 unfolding sample_table
 sampled_thirteen lim d e = not_thirteen lim (sample d) e
 
 -- A document is added through its sample, which lets it in.
 module _ (lim : Limits) (classes : Classes) (kind : Kind) (old : Table) (d : Tree) (old_within : TableWithin lim classes old)
-    (sample_within : (g : Table) → sample_table lim d ≡ given g → TableWithin lim classes g) where
-  pub widened_by_document : (result : Table) → widen lim kind old (by_document d) ≡ given result
+    (sample_within : (g : Table) → sample_table lim d ≡ Ok g → TableWithin lim classes g) where
+  pub widened_by_document : (result : Table) → widen lim kind old (by_document d) ≡ Ok result
       → LeastWidening kind old (by_document d) result
   unfolding widen
   widened_by_document result e =

@@ -21,7 +21,9 @@ use Rattle.grammar.specs.Table.{Table, empty_table}
 use Rattle.grammar.specs.Derivation.{LetsIn}
 use Rattle.grammar.specs.Kinds.{Kind, OfKind}
 use Rattle.grammar.specs.Least.{Addition, by_table, by_document, Added, AddedItself}
-use Rattle.grammar.specs.Outcome.{Outcome, given, Gives}
+use Rattle.std.specs.Prelude.{Result, Ok}
+use Rattle.grammar.specs.Outcome.{Gives}
+use Rattle.grammar.specs.declared.Refusal.{Refusal}
 use Rattle.grammar.specs.ReadTable.{read_table}
 use Rattle.grammar.specs.Documents.{read_document}
 use Rattle.grammar.specs.Sample.{sample as sample_of}
@@ -73,7 +75,7 @@ module _ (lim : Limits) (classes : Classes) where
   unfolding read_table
   empty_adds_none d a =
       let l = (table_adds empty_input.bytes d).0 a in
-      let e = (had_no_fault (ltb lim.input 3) InputTooLong (given empty_table) l.thing l.was_given).1 in
+      let e = (had_no_fault (ltb lim.input 3) InputTooLong (Ok empty_table) l.thing l.was_given).1 in
       Memᴰ.not-nil (subst (λ (g : Table). LetsIn g d) (sym (given_eq e)) l.is).of_table
 
 module _ (lim : Limits) (classes : Classes) (kind : Kind) where
@@ -107,8 +109,8 @@ module _ (lim : Limits) (classes : Classes) (kind : Kind) where
   record Demanded (old : List ℕ) (input : Input) (result : List ℕ) : Type 0 where
     table : Table
     addition : Addition
-    table_read : read_table lim classes old ≡ given table
-    addition_read : read_input lim classes input ≡ given addition
+    table_read : read_table lim classes old ≡ Ok table
+    addition_read : read_input lim classes input ≡ Ok addition
     claim : WritesLeast lim classes kind table addition result
 
   module _ {old result : List ℕ} {input : Input} (w : Widens lim classes kind old input result) where
@@ -163,15 +165,15 @@ module _ (lim : Limits) (classes : Classes) (kind : Kind) where
 
   -- what the definition of a call gives, some call gave
   pub widens_given : LimitsAgree lim → (old : List ℕ) (input : Input) (out work result : List ℕ)
-      → widened lim classes kind input.source old input.bytes out work ≡ given result → Widens lim classes kind old input result
+      → widened lim classes kind input.source old input.bytes out work ≡ Ok result → Widens lim classes kind old input result
   unfolding wrote numbers_of out_after
   widens_given agree old input out work result e =
       record {
         out = out;
         work = work;
-        left = wrote lim (given result) out work;
+        left = wrote lim (Ok result) out work;
         call =
-            widening lim classes agree kind input.source old input.bytes out work (wrote lim (given result) out work)
-            (ap (λ (o : Outcome (List ℕ)). wrote lim o out work) (sym e));
+            widening lim classes agree kind input.source old input.bytes out work (wrote lim (Ok result) out work)
+            (ap (λ (o : Result (List ℕ) Refusal). wrote lim o out work) (sym e));
         gave = record { not_refused = refl; wrote = take-append_seam result (drop (length result) out) };
       }

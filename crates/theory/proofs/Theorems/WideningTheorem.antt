@@ -12,7 +12,9 @@ use Rattle.grammar.specs.Table.{Table}
 use Rattle.grammar.specs.Derivation.{LetsIn}
 use Rattle.grammar.specs.Kinds.{Kind}
 use Rattle.grammar.specs.Least.{Addition, by_table, by_document, Added}
-use Rattle.grammar.specs.Outcome.{Outcome, given, refused, ◌>>=◌}
+use Rattle.std.specs.Prelude.{Result, Ok, Err}
+use Rattle.grammar.specs.Outcome.{◌>>=◌}
+use Rattle.grammar.specs.declared.Refusal.{Refusal}
 use Rattle.grammar.specs.ReadTable.{read_table}
 use Rattle.grammar.specs.Documents.{read_document}
 use Rattle.grammar.specs.Sample.{sample}
@@ -33,9 +35,9 @@ use Rattle.theory.proofs.Theorems.ResultWithin.{result_read_back, document_resul
 use Rattle.theory.proofs.Theorems.WidenLeast.{widened_by_table, widened_by_document, sampled, sampled_thirteen, no_document}
 
 module _ (lim : Limits) (classes : Classes) (agree : LimitsAgree lim) (kind : Kind) (old_bytes added_bytes : List ℕ) (old : Table)
-    (p : read_table lim classes old_bytes ≡ given old) where
-  by_table_lem : (addition result : Table) → read_table lim classes added_bytes ≡ given addition
-      → widen lim kind old (by_table addition) ≡ given result → WritesLeast lim classes kind old (by_table addition) (table_bytes result)
+    (p : read_table lim classes old_bytes ≡ Ok old) where
+  by_table_lem : (addition result : Table) → read_table lim classes added_bytes ≡ Ok addition
+      → widen lim kind old (by_table addition) ≡ Ok result → WritesLeast lim classes kind old (by_table addition) (table_bytes result)
   unfolding widen
   by_table_lem addition result q e =
       let old_within = read_within lim classes old_bytes old p in
@@ -46,8 +48,8 @@ module _ (lim : Limits) (classes : Classes) (agree : LimitsAgree lim) (kind : Ki
         is = widened_by_table lim classes kind old addition old_within addition_within result e;
       }
 
-  by_document_lem : (format : Format) (d : Tree) (result : Table) → read_document lim classes format added_bytes ≡ given d
-      → widen lim kind old (by_document d) ≡ given result → WritesLeast lim classes kind old (by_document d) (table_bytes result)
+  by_document_lem : (format : Format) (d : Tree) (result : Table) → read_document lim classes format added_bytes ≡ Ok d
+      → widen lim kind old (by_document d) ≡ Ok result → WritesLeast lim classes kind old (by_document d) (table_bytes result)
   unfolding widen
   by_document_lem format d result q e =
       let old_within = read_within lim classes old_bytes old p in
@@ -58,20 +60,20 @@ module _ (lim : Limits) (classes : Classes) (agree : LimitsAgree lim) (kind : Ki
         is = widened_by_document lim classes kind old d old_within (sample_within lim classes agree d within) result e;
       }
 
-  thirteen_by_table : (addition : Table) → read_table lim classes added_bytes ≡ given addition
-      → (widen lim kind old (by_table addition) ≡ refused NoDocument) ↔ ((d : Tree) → LetsIn old d ⊎ LetsIn addition d → ⊥)
+  thirteen_by_table : (addition : Table) → read_table lim classes added_bytes ≡ Ok addition
+      → (widen lim kind old (by_table addition) ≡ Err NoDocument) ↔ ((d : Tree) → LetsIn old d ⊎ LetsIn addition d → ⊥)
   unfolding widen
   thirteen_by_table addition q =
       no_document lim classes kind old addition (read_within lim classes old_bytes old p) (read_within lim classes added_bytes addition q)
 
-  never_by_document : (format : Format) (d : Tree) → read_document lim classes format added_bytes ≡ given d
-      → widen lim kind old (by_document d) ≡ refused NoDocument → ⊥
+  never_by_document : (format : Format) (d : Tree) → read_document lim classes format added_bytes ≡ Ok d
+      → widen lim kind old (by_document d) ≡ Err NoDocument → ⊥
   unfolding widen
   never_by_document format d q e = go (sample_table lim d) refl e
     where
-      go : (o : Outcome Table) → sample_table lim d ≡ o → (o >>= λ g. widen_by_table lim kind old g) ≡ refused NoDocument → ⊥
-      go (refused r) s f = sampled_thirteen lim d (s ∙ f)
-      go (given g) s f =
+      go : (o : Result Table Refusal) → sample_table lim d ≡ o → (o >>= λ g. widen_by_table lim kind old g) ≡ Err NoDocument → ⊥
+      go (Err r) s f = sampled_thirteen lim d (s ∙ f)
+      go (Ok g) s f =
           (no_document lim classes kind old g (read_within lim classes old_bytes old p)
           (sample_within lim classes agree d (tree_within lim classes format added_bytes d q) g s)
           ).0
@@ -79,42 +81,42 @@ module _ (lim : Limits) (classes : Classes) (agree : LimitsAgree lim) (kind : Ki
           d
           (inr (subst (λ (h : Table). LetsIn h d) (sym (sampled lim d g s)) (sample_lets_in d)))
 
-  thirteen_by_document : (format : Format) (document : Tree) → read_document lim classes format added_bytes ≡ given document
-      → (widen lim kind old (by_document document) ≡ refused NoDocument) ↔ ((d : Tree) → LetsIn old d ⊎ LetsIn (sample document) d → ⊥)
+  thirteen_by_document : (format : Format) (document : Tree) → read_document lim classes format added_bytes ≡ Ok document
+      → (widen lim kind old (by_document document) ≡ Err NoDocument) ↔ ((d : Tree) → LetsIn old d ⊎ LetsIn (sample document) d → ⊥)
   thirteen_by_document format document q =
       (λ e. absurd (never_by_document format document q e), λ none. absurd (none document (inr (sample_lets_in document))))
 
 -- a fact of every addition that reads, from one of tables and one of documents
 of_addition : (lim : Limits) (classes : Classes) (source : Source) (bytes : List ℕ) (addition : Addition) (Fact : Addition → Type 0)
-    → ((g : Table) → read_table lim classes bytes ≡ given g → Fact (by_table g))
-    → ((format : Format) (d : Tree) → read_document lim classes format bytes ≡ given d → Fact (by_document d))
-    → read_addition lim classes source bytes ≡ given addition → Fact addition
+    → ((g : Table) → read_table lim classes bytes ≡ Ok g → Fact (by_table g))
+    → ((format : Format) (d : Tree) → read_document lim classes format bytes ≡ Ok d → Fact (by_document d))
+    → read_addition lim classes source bytes ≡ Ok addition → Fact addition
 unfolding read_addition
 of_addition lim classes a_table bytes addition Fact table document q =
-    let (g, r, e) = was_given (read_table lim classes bytes) (λ g. given (by_table g)) addition q in
+    let (g, r, e) = was_given (read_table lim classes bytes) (λ g. Ok (by_table g)) addition q in
     subst Fact (given_eq e) (table g r)
 of_addition lim classes (a_document format) bytes addition Fact table document q =
-    let (d, r, e) = was_given (read_document lim classes format bytes) (λ d. given (by_document d)) addition q in
+    let (d, r, e) = was_given (read_document lim classes format bytes) (λ d. Ok (by_document d)) addition q in
     subst Fact (given_eq e) (document format d r)
 
 pub widening_theorem : (lim : Limits) (classes : Classes) → LimitsAgree lim → (kind : Kind) (source : Source) (old_bytes added_bytes : List ℕ)
-    (old : Table) (addition : Addition) (result : Table) → read_table lim classes old_bytes ≡ given old
-    → read_addition lim classes source added_bytes ≡ given addition → widen lim kind old addition ≡ given result
+    (old : Table) (addition : Addition) (result : Table) → read_table lim classes old_bytes ≡ Ok old
+    → read_addition lim classes source added_bytes ≡ Ok addition → widen lim kind old addition ≡ Ok result
     → WritesLeast lim classes kind old addition (table_bytes result)
 widening_theorem lim classes agree kind source old_bytes added_bytes old addition result p q =
     of_addition lim classes source added_bytes addition
-    (λ a. widen lim kind old a ≡ given result → WritesLeast lim classes kind old a (table_bytes result))
+    (λ a. widen lim kind old a ≡ Ok result → WritesLeast lim classes kind old a (table_bytes result))
     (λ g r. by_table_lem lim classes agree kind old_bytes added_bytes old p g result r)
     (λ format d r. by_document_lem lim classes agree kind old_bytes added_bytes old p format d result r)
     q
 
 pub thirteen : (lim : Limits) (classes : Classes) → LimitsAgree lim → (kind : Kind) (source : Source) (old_bytes added_bytes : List ℕ)
-    (old : Table) (addition : Addition) → read_table lim classes old_bytes ≡ given old
-    → read_addition lim classes source added_bytes ≡ given addition
-    → (widen lim kind old addition ≡ refused NoDocument) ↔ ((d : Tree) → LetsIn old d ⊎ Added addition d → ⊥)
+    (old : Table) (addition : Addition) → read_table lim classes old_bytes ≡ Ok old
+    → read_addition lim classes source added_bytes ≡ Ok addition
+    → (widen lim kind old addition ≡ Err NoDocument) ↔ ((d : Tree) → LetsIn old d ⊎ Added addition d → ⊥)
 thirteen lim classes agree kind source old_bytes added_bytes old addition p q =
     of_addition lim classes source added_bytes addition
-    (λ a. (widen lim kind old a ≡ refused NoDocument) ↔ ((d : Tree) → LetsIn old d ⊎ Added a d → ⊥))
+    (λ a. (widen lim kind old a ≡ Err NoDocument) ↔ ((d : Tree) → LetsIn old d ⊎ Added a d → ⊥))
     (λ g r. thirteen_by_table lim classes agree kind old_bytes added_bytes old p g r)
     (λ format d r. thirteen_by_document lim classes agree kind old_bytes added_bytes old p format d r)
     q

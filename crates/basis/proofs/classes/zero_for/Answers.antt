@@ -1,19 +1,11 @@
--- `classes::zero_for` meets its contract. The loop's invariant: whether all pass is whether all from `i` on pass.
-use mathlib.Core.Path.{sym, ◌∙◌}
-use lib.ListN.{get_or}
-use borrow.Author.Tests.{eq-eqb, ne_eqb}
-use Rattle.basis.proofs.LoadedClasses.{zero_at}
-use Rattle.basis.proofs.PlaceByPlace.{all_next, all_fails, all_end}
+-- `classes::zero_for` meets its contract.
+use Rattle.std.proofs.Common.{rules, tests, ◌∙◌, eqb, get_or}
+use Rattle.std.proofs.lemmas.Iterator.{YieldsList-from_slice}
+use Rattle.std.proofs.lemmas.Iterator.Search.{all_from_yields_List}
+use Rattle.basis.proofs.PassLaws.{all_listed}
 use Rattle.basis.proofs.classes.zero_for.Goals as goal
-
-pub returns-then-class-ne0 : goal.returns-then-class-ne0
-returns-then-class-ne0 c =
-    sym (c.loop-i.invariant ∙ all_fails (zero_at c.args.classes.now) c.args.bytes.now c.loop-i.i c.loop-i-test.true (ne_eqb (get_or c.args.classes.now (get_or c.args.bytes.now c.loop-i.i 0) 0) 0 (λ e. c.if-class-ne0.true (c.class_of-class.ensures ∙ e))))
-
-pub loop-i-preserved : goal.loop-i-preserved
-loop-i-preserved c =
-    c.loop-i.invariant ∙ all_next (zero_at c.args.classes.now) c.args.bytes.now c.loop-i.i c.loop-i-test.true (eq-eqb (get_or c.args.classes.now (get_or c.args.bytes.now c.loop-i.i 0) 0) 0 (sym c.class_of-class.ensures ∙ c.if-class-ne0.false))
 
 pub returns : goal.returns
 returns c =
-    sym (c.loop-i.invariant ∙ all_end (zero_at c.args.classes.now) c.args.bytes.now c.loop-i.i c.loop-i-test.false)
+    all_from_yields_List (λ b. eqb (get_or c.args.classes.now b 0) 0) _ _ _ c.all.ensures.ran (YieldsList-from_slice (c.args.bytes.now) cc) (λ x b q k. search (rules, tests))
+    ∙ all_listed (λ b. eqb (get_or c.args.classes.now b 0) 0) c.args.bytes.now

@@ -1,37 +1,24 @@
--- `names::is_name` meets its contract. The loop's invariant: whether it is a name is whether all bytes from `i` on may stand there.
-use native.Mathlib.Omega.{arith}
-use mathlib.Core.Path.{sym, ◌∙◌}
-use Rattle.basis.proofs.NameReading.{later, name_empty, name_first, name_not_first, later_next, later_fails}
-use Rattle.basis.proofs.PlaceByPlace.{all_end}
+-- `names::is_name` meets its contract.
+use Rattle.std.proofs.Common.{rules, tests, sym, ◌∙◌}
+use Rattle.std.proofs.lemmas.Iterator.{YieldsList-from_slice}
+use Rattle.std.proofs.lemmas.Iterator.Search.{all_from_yields_List}
+use borrow.Author.Tests.{ne_eqb}
+use Rattle.basis.proofs.NameReading.{later, name_empty, name_first, name_not_first}
+use Rattle.basis.proofs.PassLaws.{all_listed}
 use Rattle.basis.proofs.names.is_name.Goals as goal
 
-pub returns-then-s-eq0 : goal.returns-then-s-eq0
-returns-then-s-eq0 c = sym (name_empty c.args.classes.now c.args.s.now c.if-s-eq0.true)
+pub returns-in-None : goal.returns-in-None
+returns-in-None c = name_empty c.args.classes.now c.args.s.now c.in-None.ensures.cases
 
-pub class_of-first-requires : goal.class_of-first-requires
-class_of-first-requires c = c.requires
+pub returns-then-class_of-eq2 : goal.returns-then-class_of-eq2
+returns-then-class_of-eq2 c =
+    let test = later c.args.classes.now in
+    let rest = c.in-Some.rest.now in
+    all_from_yields_List test _ _ _ c.all.ensures.ran (YieldsList-from_slice rest cc) (λ x b q k. search (rules, tests))
+    ∙ all_listed test rest
+    ∙ name_first c.args.classes.now c.args.s.now _ rest c.in-Some.ensures.cases.0 (sym c.class_of.ensures ∙ c.if-class_of-eq2.true)
 
-pub returns-then-first-ne2 : goal.returns-then-first-ne2
-returns-then-first-ne2 c =
-    sym (name_not_first c.args.classes.now c.args.s.now (omega arith) (λ e. c.if-first-ne2.true (c.class_of-first.ensures ∙ e)))
-
-pub loop-i-init : goal.loop-i-init
-loop-i-init c =
-    name_first c.args.classes.now c.args.s.now (omega arith) (sym c.class_of-first.ensures ∙ c.if-first-ne2.false)
-
-pub class_of-class-requires : goal.class_of-class-requires
-class_of-class-requires c = c.requires
-
-pub returns-then-class-eq0 : goal.returns-then-class-eq0
-returns-then-class-eq0 c =
-    sym
-    (c.loop-i.invariant
-    ∙ later_fails c.args.classes.now c.args.s.now c.loop-i.i c.loop-i-test.true (sym c.class_of-class.ensures ∙ c.if-class-eq0.true))
-
-pub loop-i-preserved : goal.loop-i-preserved
-loop-i-preserved c =
-    c.loop-i.invariant
-    ∙ later_next c.args.classes.now c.args.s.now c.loop-i.i c.loop-i-test.true (λ e. c.if-class-eq0.false (c.class_of-class.ensures ∙ e))
-
-pub returns : goal.returns
-returns c = sym (c.loop-i.invariant ∙ all_end (later c.args.classes.now) c.args.s.now c.loop-i.i (omega arith))
+pub returns-else-class_of-eq2 : goal.returns-else-class_of-eq2
+returns-else-class_of-eq2 c =
+    ne_eqb _ _ c.if-class_of-eq2.false
+    ∙ name_not_first c.args.classes.now c.args.s.now _ c.in-Some.rest.now c.in-Some.ensures.cases.0 (λ e. c.if-class_of-eq2.false (c.class_of.ensures ∙ e))

@@ -14,6 +14,7 @@ use Rattle.union.specs.View.{Views, first_in}
 use Rattle.union.specs.PairNumbers.{rule_numbered}
 use Rattle.contents.proofs.RuleLaws.{first_is}
 use Rattle.contents.proofs.LoopLaws.{given_on, given_off, given_as, so_far_none, so_far_skip, ready_for, so_far_wide, so_far_next, so_far_all, pair_gives_lem}
+use Rattle.reader.proofs.AnswerLaws.{handed_on}
 use Rattle.contents.proofs.joining.gather_pair.Goals as goal
 
 -- the rule is of the pair, or it is of another
@@ -28,29 +29,24 @@ of-another {u = u} {i = i} {p = p} views h f e = ne_eqb (pair_of u (rule_numbere
 pub loop-i-init : goal.loop-i-init
 loop-i-init c = (omega arith, refl, refl, λ q k. so_far_none _ _ _ k)
 
-pub bounds-firsts-i : goal.bounds-firsts-i
-bounds-firsts-i c = omega arith
-
-pub overflow_add-i : goal.overflow_add-i
-overflow_add-i c = omega arith
-
-pub loop-i-preserved-then-wide-p : goal.loop-i-preserved-then-wide-p
-loop-i-preserved-then-wide-p c = (
+pub loop-i-preserved-then-from-p : goal.loop-i-preserved-then-from-p
+loop-i-preserved-then-from-p c = (
   omega arith,
   c.loop-i.invariant.1,
   c.loop-i.invariant.2,
   λ q k.
       let h = c.loop-i-test.true in
-      so_far_skip _ _ _ (c.loop-i.invariant.3 q k) h (given_off _ _ (of-another q.views h c.wide.ensures.value c.if-wide-p.true)),
+      so_far_skip _ _ _ (c.loop-i.invariant.3 q k) h (given_off _ _ (of-another q.views h c.from.ensures c.if-from-p.true)),
 )
 
 pub gather_rule-requires : goal.gather_rule-requires
 gather_rule-requires c =
     (c.requires.0, c.loop-i-test.true, ready_for _ _ _ (c.loop-i.invariant.3 c.requires.0 c.requires.1) c.requires.1.small (omega arith) (omega arith))
 
-pub returns-in-TooLarge : goal.returns-in-TooLarge
-returns-in-TooLarge c =
-    let at-loop = c.loop-i in
+pub returns-in_err-gathered : goal.returns-in_err-gathered
+returns-in_err-gathered c =
+    rw (handed_on c.from_residual.result c.from_residual.ensures)
+    (let at-loop = c.loop-i in
     λ q k.
     let l = at-loop in
     let h = c.loop-i-test.true in
@@ -60,16 +56,13 @@ returns-in-TooLarge c =
     let deep = k.deep in
     let s = l.invariant.3 q k in
     so_far_wide _ _ _ s h _ _ _
-    (given_as _ _ _ (sym (given_on _ _ (of_pair q.views h c.wide.ensures.value c.if-wide-p.false)))
+    (given_as _ _ _ (sym (given_on _ _ (of_pair q.views h c.from.ensures c.if-from-p.false)))
     (c.gather_rule.ensures q (ready_for _ _ _ s k.small (omega arith) (omega arith))))
-    c.in-TooLarge.is
+    c.in_err-gathered.was
     _
     _
     _
-    (pair_gives_lem q.of q.table c.args.p c.args.v.rules q.views.rules)
-
-pub overflow_add-i-in-loop-i : goal.overflow_add-i-in-loop-i
-overflow_add-i-in-loop-i c = omega arith
+    (pair_gives_lem q.of q.table c.args.p c.args.v.rules q.views.rules))
 
 pub loop-i-preserved : goal.loop-i-preserved
 loop-i-preserved c =
@@ -86,9 +79,9 @@ loop-i-preserved c =
           let deep = k.deep in
           let s = l.invariant.3 q k in
           so_far_next _ _ _ s h _ _ _
-          (given_as _ _ _ (sym (given_on _ _ (of_pair q.views h c.wide.ensures.value c.if-wide-p.false)))
+          (given_as _ _ _ (sym (given_on _ _ (of_pair q.views h c.from.ensures c.if-from-p.false)))
           (c.gather_rule.ensures q (ready_for _ _ _ s k.small (omega arith) (omega arith))))
-          c.in-Upto.is,
+          c.in_ok-gathered.was,
     )
 
 pub returns : goal.returns

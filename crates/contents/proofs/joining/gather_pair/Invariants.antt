@@ -1,5 +1,5 @@
 -- `gather_pair` meets its contract. The loop's invariant: what the pair's rules before `i` give stands in the draft.
-use Prim.Native.Nat.{◌-◌, ◌≤◌}
+use Prim.Native.Nat.{◌≤◌}
 use mathlib.Core.Path.{◌≡◌}
 use lib.ListN.{length}
 use Rattle.contents.specs.Joining.{Joining, Ready}
@@ -13,6 +13,3 @@ invariant-loop-i l =
     × (length l.register ≡ length l.initial.register)
     × ((q : Joining l.old l.add l.v l.results) (k : Ready l.initial.draft l.initial.register l.row)
     → MergedSoFar (rule_gives q.of q.table l.p) l.rules l.row k.kept.list l.draft l.register l.count l.end l.i)
-
-abbrev pub decreases-loop-i : goal.decreases-loop-i
-decreases-loop-i l = l.rules - l.i

@@ -4,33 +4,33 @@ use Rattle.contents.proofs.joining.gather_rule.Goals as goal
 
 pub slice_bounds-gather_content-count : goal.slice_bounds-gather_content-count
 slice_bounds-gather_content-count c =
-    let begins = c.wider-from.ensures.value in
-    let ends = c.wider-to.ensures.value in
+    let begins = c.from-from.ensures in
+    let ends = c.from-to.ensures in
     (old_part c.requires.0 _ c.requires.1 begins ends c.requires.2 c.if-i-v.true).order
 
 pub slice_bounds-gather_content-start : goal.slice_bounds-gather_content-start
 slice_bounds-gather_content-start c =
-    let begins = c.wider-from.ensures.value in
-    let ends = c.wider-to.ensures.value in
+    let begins = c.from-from.ensures in
+    let ends = c.from-to.ensures in
     (old_part c.requires.0 _ c.requires.1 begins ends c.requires.2 c.if-i-v.true).order
 
 pub slice_bounds-gather_content-end : goal.slice_bounds-gather_content-end
 slice_bounds-gather_content-end c =
-    let begins = c.wider-from.ensures.value in
-    let ends = c.wider-to.ensures.value in
+    let begins = c.from-from.ensures in
+    let ends = c.from-to.ensures in
     (old_part c.requires.0 _ c.requires.1 begins ends c.requires.2 c.if-i-v.true).within
 
 pub gather_content-requires : goal.gather_content-requires
 gather_content-requires c =
-    let begins = c.wider-from.ensures.value in
-    let ends = c.wider-to.ensures.value in
+    let begins = c.from-from.ensures in
+    let ends = c.from-to.ensures in
     let k = c.requires.2 in
     (old_source c.requires.0 _ c.requires.1 begins ends k c.if-i-v.true, k.registered)
 
 pub returns-then-i-v : goal.returns-then-i-v
 returns-then-i-v c =
-    let begins = c.wider-from.ensures.value in
-    let ends = c.wider-to.ensures.value in
+    let begins = c.from-from.ensures in
+    let ends = c.from-to.ensures in
     let is-old = c.if-i-v.true in
     let given = c.gather_content.ensures in
     λ q k.
@@ -39,33 +39,33 @@ returns-then-i-v c =
 
 pub slice_bounds-gather_content-count-2 : goal.slice_bounds-gather_content-count-2
 slice_bounds-gather_content-count-2 c =
-    let begins = c.wider-from.ensures.value in
-    let ends = c.wider-to.ensures.value in
+    let begins = c.from-from.ensures in
+    let ends = c.from-to.ensures in
     (added_part c.requires.0 _ c.requires.1 begins ends c.requires.2 c.if-i-v.false).order
 
 pub slice_bounds-gather_content-start-2 : goal.slice_bounds-gather_content-start-2
 slice_bounds-gather_content-start-2 c =
-    let begins = c.wider-from.ensures.value in
-    let ends = c.wider-to.ensures.value in
+    let begins = c.from-from.ensures in
+    let ends = c.from-to.ensures in
     (added_part c.requires.0 _ c.requires.1 begins ends c.requires.2 c.if-i-v.false).order
 
 pub slice_bounds-gather_content-end-2 : goal.slice_bounds-gather_content-end-2
 slice_bounds-gather_content-end-2 c =
-    let begins = c.wider-from.ensures.value in
-    let ends = c.wider-to.ensures.value in
+    let begins = c.from-from.ensures in
+    let ends = c.from-to.ensures in
     (added_part c.requires.0 _ c.requires.1 begins ends c.requires.2 c.if-i-v.false).within
 
 pub gather_content-requires-2 : goal.gather_content-requires-2
 gather_content-requires-2 c =
-    let begins = c.wider-from.ensures.value in
-    let ends = c.wider-to.ensures.value in
+    let begins = c.from-from.ensures in
+    let ends = c.from-to.ensures in
     let k = c.requires.2 in
     (added_source c.requires.0 _ c.requires.1 begins ends k c.if-i-v.false, k.registered)
 
 pub returns : goal.returns
 returns c =
-    let begins = c.wider-from.ensures.value in
-    let ends = c.wider-to.ensures.value in
+    let begins = c.from-from.ensures in
+    let ends = c.from-to.ensures in
     let is-added = c.if-i-v.false in
     let given = c.gather_content-2.ensures in
     λ q k.

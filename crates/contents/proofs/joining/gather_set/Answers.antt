@@ -10,6 +10,7 @@ use Rattle.contents.proofs.CompleteLaws.{start_kept}
 use Rattle.operands.specs.Notes.{register_length}
 use Rattle.emitting.proofs.TypesKeptLaws.{registered_zeros}
 use Rattle.contents.proofs.LoopLaws.{given_on, given_off, given_as, so_far_none, so_far_skip, ready_for, so_far_wide, so_far_next, so_far_all, set_gives}
+use Rattle.reader.proofs.AnswerLaws.{handed_on}
 use Rattle.contents.proofs.joining.gather_set.Goals as goal
 
 pub loop-p-init : goal.loop-p-init
@@ -32,10 +33,7 @@ loop-p-init c =
     )
 
 pub has-requires : goal.has-requires
-has-requires c = omega arith
-
-pub overflow_add-p : goal.overflow_add-p
-overflow_add-p c = omega arith
+has-requires c = (omega arith, omega arith)
 
 pub loop-p-preserved-then-not-has : goal.loop-p-preserved-then-not-has
 loop-p-preserved-then-not-has c = (
@@ -52,9 +50,10 @@ pub gather_pair-requires : goal.gather_pair-requires
 gather_pair-requires c =
     (c.requires.0, ready_for _ _ _ (c.loop-p.invariant.3 c.requires.0) (omega arith) (omega arith) (omega arith))
 
-pub returns-in-TooLarge : goal.returns-in-TooLarge
-returns-in-TooLarge c =
-    let at-loop = c.loop-p in
+pub returns-in_err-gathered : goal.returns-in_err-gathered
+returns-in_err-gathered c =
+    rw (handed_on c.from_residual.result c.from_residual.ensures)
+    (let at-loop = c.loop-p in
     λ q.
     let l = at-loop in
     let same = l.invariant.1 in
@@ -63,15 +62,12 @@ returns-in-TooLarge c =
     (so_far_wide _ _ _ s c.loop-p-test.true _ _ _
     (given_as _ _ _ (sym (given_on _ _ (sym c.has.ensures ∙ c.if-not-has.false)))
     (c.gather_pair.ensures q (ready_for _ _ _ s (omega arith) (omega arith) (omega arith))))
-    c.in-TooLarge.is
+    c.in_err-gathered.was
     _
     []
     _
     (set_gives q.of q.table (member c.args.set.words 0) c.args.v.rules q.views.rules)
-    ).gathers
-
-pub overflow_add-p-in-loop-p : goal.overflow_add-p-in-loop-p
-overflow_add-p-in-loop-p c = omega arith
+    ).gathers)
 
 pub loop-p-preserved : goal.loop-p-preserved
 loop-p-preserved c =
@@ -87,7 +83,7 @@ loop-p-preserved c =
           so_far_next _ _ _ s c.loop-p-test.true _ _ _
           (given_as _ _ _ (sym (given_on _ _ (sym c.has.ensures ∙ c.if-not-has.false)))
           (c.gather_pair.ensures q (ready_for _ _ _ s (omega arith) (omega arith) (omega arith))))
-          c.in-Upto.is,
+          c.in_ok-gathered.was,
     )
 
 pub returns : goal.returns

@@ -1,5 +1,5 @@
 -- `gather_set` meets its contract. The loop's invariant: what the set's pairs before `p` give stands in the draft.
-use Prim.Native.Nat.{◌-◌, ◌≤◌}
+use Prim.Native.Nat.{◌≤◌}
 use mathlib.Core.List.{[]}
 use mathlib.Core.Path.{◌≡◌}
 use lib.ListN.{length}
@@ -16,6 +16,3 @@ invariant-loop-p l =
     × (length l.register ≡ register_length)
     × ((q : Joining l.old l.add l.v l.results)
     → MergedSoFar (pair_gives q.of q.table (member l.set.words 0)) l.rules content_row [] l.draft l.register l.count l.end l.p)
-
-abbrev pub decreases-loop-p : goal.decreases-loop-p
-decreases-loop-p l = l.rules - l.p

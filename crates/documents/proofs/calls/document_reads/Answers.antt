@@ -1,4 +1,5 @@
 -- `calls::document_reads` meets its contract.
+use mathlib.Core.Path.{refl}
 use Rattle.theory.proofs.Bytes.ClassLaws.{all_classed}
 use native.Mathlib.Omega.{arith}
 use Rattle.grammar.specs.LimitSets.{limits_of}
@@ -13,12 +14,12 @@ returns-then-work-limits c =
 
 pub returns-then-not-classes_load : goal.returns-then-not-classes_load
 returns-then-not-classes_load c =
-    document_sized c.limits_of-limits.ensures.limits (document_unloaded (limits_of c.limits_of-limits.result) c.args.classes.now c.args.format c.args.document.now c.args.work.now c.if-work-limits.false _ c.clear_work.ensures (does_not_load c.args.classes.now c.classes_load.ensures c.if-not-classes_load.true-raw))
+    document_sized c.limits_of-limits.ensures.limits (document_unloaded (limits_of c.limits_of-limits.result) c.args.classes.now c.args.format c.args.document.now c.args.work.now c.if-work-limits.false _ (c.clear_work.ensures (limits_of c.limits_of-limits.result) refl) (does_not_load c.args.classes.now c.classes_load.ensures c.if-not-classes_load.true-raw))
 
-pub read_document-read-requires : goal.read_document-read-requires
-read_document-read-requires c =
-    let all = all_classed c.args.classes.now (does_load c.args.classes.now c.classes_load.ensures c.if-not-classes_load.false-raw) in record { in_bounds = omega arith; within = c.limits_of-limits.ensures.within }
+pub read_document-requires : goal.read_document-requires
+read_document-requires c =
+    let all = all_classed c.args.classes.now (does_load c.args.classes.now c.classes_load.ensures c.if-not-classes_load.false-raw) in record { in_bounds = omega arith }
 
 pub returns : goal.returns
 returns c =
-    document_sized c.limits_of-limits.ensures.limits (document_answered (limits_of c.limits_of-limits.result) c.args.classes.now c.args.format c.args.document.now c.args.work.now c.if-work-limits.false _ c.clear_work.ensures (does_load c.args.classes.now c.classes_load.ensures c.if-not-classes_load.false-raw) c.read_document-read.result c.read_document-read.ensures)
+    document_sized c.limits_of-limits.ensures.limits (document_answered (limits_of c.limits_of-limits.result) c.args.classes.now c.args.format c.args.document.now c.args.work.now c.if-work-limits.false _ (c.clear_work.ensures (limits_of c.limits_of-limits.result) refl) (does_load c.args.classes.now c.classes_load.ensures c.if-not-classes_load.false-raw) c.read_document.new.index c.read_document.result c.read_document.ensures)

@@ -1,18 +1,12 @@
 -- `documents::read_fields` meets its contract. The loop's invariant is `NodesSoFar`; the measure is what is left of the input.
 use Prim.Native.Nat.{◌-◌}
-use mathlib.Core.Path.{◌≡◌}
 use lib.ListN.{length}
 use Rattle.grammar.specs.LimitSets.{limits_of}
 use Rattle.documents.proofs.DocumentLoop.{NodesSoFar}
 use Rattle.documents.proofs.documents.read_fields.Given as goal
 
-abbrev pub invariant-loop-from : goal.invariant-loop-from
-invariant-loop-from l =
-    NodesSoFar (limits_of l.limits) l.classes l.s l.names l.sizes l.shapes l.nodes l.at l.coming l.depth
-    × (length l.coming ≡ 65)
-    × (length l.names ≡ length l.initial.names)
-    × (length l.sizes ≡ length l.initial.sizes)
-    × (length l.shapes ≡ length l.initial.shapes)
+abbrev pub invariant-loop-node : goal.invariant-loop-node
+invariant-loop-node l = NodesSoFar (limits_of l.limits) l.classes l.s l.index l.at l.coming l.depth
 
-abbrev pub decreases-loop-from : goal.decreases-loop-from
-decreases-loop-from l = length l.s - l.at
+abbrev pub decreases-loop-node : goal.decreases-loop-node
+decreases-loop-node l = length l.s - l.at

@@ -6,13 +6,8 @@ use Rattle.grammar.specs.LimitSets.{limits_of}
 use Rattle.documents.proofs.TextLoop.{TextSoFar}
 use Rattle.documents.proofs.elements.read_tags.Given as goal
 
-abbrev pub invariant-loop-from : goal.invariant-loop-from
-invariant-loop-from l =
-    TextSoFar (limits_of l.limits) l.classes l.s l.names l.sizes l.shapes l.nodes l.at l.places l.depth
-    × (length l.places ≡ 64)
-    × (length l.names ≡ length l.initial.names)
-    × (length l.sizes ≡ length l.initial.sizes)
-    × (length l.shapes ≡ length l.initial.shapes)
+abbrev pub invariant-loop-tag : goal.invariant-loop-tag
+invariant-loop-tag l = TextSoFar (limits_of l.limits) l.classes l.s l.index l.at l.places l.depth × (length l.places ≡ 64)
 
-abbrev pub decreases-loop-from : goal.decreases-loop-from
-decreases-loop-from l = length l.s - l.at
+abbrev pub decreases-loop-tag : goal.decreases-loop-tag
+decreases-loop-tag l = length l.s - l.at

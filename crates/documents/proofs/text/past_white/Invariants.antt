@@ -1,12 +1,8 @@
 -- `text::past_white` meets its contract. The loop's invariant: what stands from `i` on is what stands behind the white space.
-use Prim.Native.Nat.{◌-◌, ◌≤◌}
 use mathlib.Core.Path.{◌≡◌}
-use lib.ListN.{length, drop}
+use lib.ListN.{drop}
 use Rattle.grammar.specs.ReadText.{past_white}
 use Rattle.documents.proofs.text.past_white.Given as goal
 
 abbrev pub invariant-loop-i : goal.invariant-loop-i
-invariant-loop-i l = (l.at ≤ l.i) × (l.i ≤ length l.s) × (past_white (drop l.at l.s) ≡ past_white (drop l.i l.s))
-
-abbrev pub decreases-loop-i : goal.decreases-loop-i
-decreases-loop-i l = length l.s - l.i
+invariant-loop-i l = past_white (drop l.at l.s) ≡ past_white (drop l.i l.s)

@@ -20,6 +20,7 @@ use Rattle.emitting.proofs.SourceLaws.{CountedThere, counted_of, single_of, cont
 use Rattle.emitting.proofs.EmitLaws.{no_sources, first_source, row_wide, other_sources, goes_on, row_then, no_operands, first_operand, operand_words, operand_registered, operand_wide, operand_kept, goes_on', operand_long, other_operands, row_on, sequence_inside, sequence_blank, sequence_operands, sequence_wide, sequence_newest, sequence_settled, around_inside, around_blank, around_empty, around_operands, around_wide, around_newest, around_settled, source_room, source_as, source_noted, plain_gives, none_gives, empty_gives, choice_sources, choice_gives, type_gives}
 use Prim.Native.Nat.{ℕ, ◌+◌, ◌-◌, ◌≤◌, ◌<◌}
 use Rattle.union.specs.Walks.{list_of_type}
+use Rattle.reader.proofs.AnswerLaws.{handed_on}
 use Rattle.emitting.proofs.emitter.+emit_row_gather_gather_around_gather_compound_gather_one_gather_row_gather_sequence.Goals as goal
 
 -- the operands of a sequence and of a choice
@@ -40,11 +41,17 @@ rows-within notes h = let p = lent_words operand_limit notes h in omega arith
 notes-within : (register : List ℕ) → type_words ≤ length register → type_words + length (lent_from type_words register) ≡ length register
 notes-within register h = let p = lent_words type_words register h in omega arith
 
-some_left : {n : ℕ} → 0 < n → n ≡ 0 → ⊥
+some_left : {n k : ℕ} → k < n → n - k ≡ 0 → ⊥
 some_left h z = omega arith
 
-pub emit_row-loop-left-init : goal.emit_row-loop-left-init
-emit_row-loop-left-init t c = (omega arith, refl, refl, λ q. record { rest = q; whole = λ d o g. g })
+none_passed : (n : ℕ) → n - 0 ≡ n
+none_passed n = omega arith
+
+one_passed : (n k : ℕ) → n - (k + 1) ≡ n - k - 1
+one_passed n k = omega arith
+
+pub emit_row-loop-init : goal.emit_row-loop-init
+emit_row-loop-init t c = (omega arith, refl, refl, λ q. rw (none_passed c.args.n) (record { rest = q; whole = λ d o g. g }))
 
 pub gather-bounds-content-at : goal.gather-bounds-content-at
 gather-bounds-content-at t c = (content_inside large _ _ c.requires.0.there).0
@@ -58,8 +65,8 @@ gather_compound-bounds-content-at t c = (content_inside large _ _ c.requires.1.0
 pub gather_one-bounds-content-at : goal.gather_one-bounds-content-at
 gather_one-bounds-content-at t c = (content_inside large _ _ c.requires.2.0.there).0
 
-pub gather_row-loop-left-init : goal.gather_row-loop-left-init
-gather_row-loop-left-init t c = (omega arith, refl, refl, λ q y. record { rest = q; registered = y; whole = λ register d o g. g })
+pub gather_row-loop-init : goal.gather_row-loop-init
+gather_row-loop-init t c = (omega arith, refl, refl, λ q y. rw (none_passed c.args.n) (record { rest = q; registered = y; whole = λ register d o g. g }))
 
 pub gather_sequence-overflow_add-at : goal.gather_sequence-overflow_add-at
 gather_sequence-overflow_add-at t c =
@@ -68,8 +75,8 @@ gather_sequence-overflow_add-at t c =
 
 pub emit_row-slice_bounds-clear-count : goal.emit_row-slice_bounds-clear-count
 emit_row-slice_bounds-clear-count t c =
-    let some = some_left c.loop-left-test.true in
-    let r = (c.loop-left.invariant.3 c.requires).rest in
+    let some = some_left c.loop-test.true in
+    let r = (c.loop.invariant.3 c.requires).rest in
     let w = operand_words r (list_of_type c.args.from.now c.args.results.now) some in
     omega arith
 
@@ -81,10 +88,10 @@ gather_around-overflow_add-at t c =
 pub gather_row-gather-requires : goal.gather_row-gather-requires
 gather_row-gather-requires t c =
     let res = list_of_type c.args.from.now c.args.results.now in
-    let some = some_left c.loop-left-test.true in
+    let some = some_left c.loop-test.true in
     let q = c.requires.0 in
     let y = c.requires.1 in
-    let x = c.loop-left.invariant.3 q y in
+    let x = c.loop.invariant.3 q y in
     let r = x.rest in
     (omega arith, (first_source r res some, x.registered))
 
@@ -112,19 +119,20 @@ gather_compound-overflow_add-at t c =
 pub gather_one-gather_sequence-requires : goal.gather_one-gather_sequence-requires
 gather_one-gather_sequence-requires t c = (omega arith, (sym c.wide.ensures.value ∙ c.if-wide-eq-SEQUENCE.true, c.requires.2))
 
-pub gather_row-returns-in-TooLarge : goal.gather_row-returns-in-TooLarge
-gather_row-returns-in-TooLarge t c =
-    let res = list_of_type c.args.from.now c.args.results.now in
-    let some = some_left c.loop-left-test.true in
+pub gather_row-returns-in_err-gathered : goal.gather_row-returns-in_err-gathered
+gather_row-returns-in_err-gathered t c =
+    rw (handed_on c.from_residual.result c.from_residual.ensures)
+    (let res = list_of_type c.args.from.now c.args.results.now in
+    let some = some_left c.loop-test.true in
     λ q y.
-    let x = c.loop-left.invariant.3 q y in
+    let x = c.loop.invariant.3 q y in
     let r = x.rest in
-    x.whole _ _ _ (row_wide r res some _ _ (c.gather.ensures (first_source r res some) x.registered) c.in-TooLarge.is)
+    x.whole _ _ _ (row_wide r res some _ _ (c.gather.ensures (first_source r res some) x.registered) c.in_err-gathered.was))
 
 pub emit_row-slice_bounds-clear-end : goal.emit_row-slice_bounds-clear-end
 emit_row-slice_bounds-clear-end t c =
-    let some = some_left c.loop-left-test.true in
-    let r = (c.loop-left.invariant.3 c.requires).rest in
+    let some = some_left c.loop-test.true in
+    let r = (c.loop.invariant.3 c.requires).rest in
     let w = operand_words r (list_of_type c.args.from.now c.args.results.now) some in
     omega arith
 
@@ -173,7 +181,7 @@ gather_sequence-row_has-asked-requires t c =
 
 pub emit_row-overflow_add-row : goal.emit_row-overflow_add-row
 emit_row-overflow_add-row t c =
-    let r = (c.loop-left.invariant.3 c.requires).rest in
+    let r = (c.loop.invariant.3 c.requires).rest in
     omega arith
 
 pub gather-slice_bounds-gather_empty-start : goal.gather-slice_bounds-gather_empty-start
@@ -193,31 +201,32 @@ gather_compound-overflow_add-at-then-wide-eq-CHOICE t c =
     let i = count_there large _ _ c.requires.1.0.there (omega arith) (omega arith) in
     omega arith
 
-pub gather_row-loop-left-preserved : goal.gather_row-loop-left-preserved
-gather_row-loop-left-preserved t c =
+pub gather_row-loop-preserved : goal.gather_row-loop-preserved
+gather_row-loop-preserved t c =
     let res = list_of_type c.args.from.now c.args.results.now in
-    let some = some_left c.loop-left-test.true in
-    let e = c.in-Upto.is in
+    let some = some_left c.loop-test.true in
+    let e = c.in_ok-gathered.was in
     let l = c.gather.auto.draft in
     let on =
     let q = c.requires.0 in
     let y = c.requires.1 in
-    let x = c.loop-left.invariant.3 q y in
+    let x = c.loop.invariant.3 q y in
     let r = x.rest in
     let g = c.gather.ensures (first_source r res some) x.registered in
     goes_on r res some _ _ g e l in (
       omega arith,
-      l ∙ c.loop-left.invariant.1,
-      c.gather.auto.register ∙ c.loop-left.invariant.2,
+      l ∙ c.loop.invariant.1,
+      c.gather.auto.register ∙ c.loop.invariant.2,
       λ q y.
-          let x = c.loop-left.invariant.3 q y in
+          let x = c.loop.invariant.3 q y in
           let r = x.rest in
           let g = c.gather.ensures (first_source r res some) x.registered in
-          record {
+          rw (one_passed c.args.n c.loop.counter)
+          (record {
             rest = other_sources r res some _ _ g e l _ c.gather.auto.register;
             registered = g.noted e;
             whole = λ register d o h. x.whole register d o (row_then r res some _ _ g e l d o h);
-          },
+          }),
     )
 
 pub gather_sequence-bounds-draft-end : goal.gather_sequence-bounds-draft-end
@@ -232,9 +241,9 @@ gather_sequence-bounds-draft-end t c =
 pub gather_one-returns : goal.gather_one-returns
 gather_one-returns t c = c.gather_around.ensures
 
-pub emit_row-overflow_add-row-in-loop-left : goal.emit_row-overflow_add-row-in-loop-left
-emit_row-overflow_add-row-in-loop-left t c =
-    let r = (c.loop-left.invariant.3 c.requires).rest in
+pub emit_row-overflow_add-row-in-loop : goal.emit_row-overflow_add-row-in-loop
+emit_row-overflow_add-row-in-loop t c =
+    let r = (c.loop.invariant.3 c.requires).rest in
     omega arith
 
 pub gather-slice_bounds-gather_empty-end : goal.gather-slice_bounds-gather_empty-end
@@ -254,7 +263,7 @@ gather_compound-gather_row-requires t c =
 pub gather_row-returns : goal.gather_row-returns
 gather_row-returns t c =
     λ q y.
-    let x = c.loop-left.invariant.3 q y in
+    let x = c.loop.invariant.3 q y in
     let r = x.rest in
     x.whole _ _ _ (no_sources r _ (omega arith) x.registered)
 
@@ -263,9 +272,9 @@ gather_sequence-overflow_add-draft t c =
     let i = count_there large _ _ c.requires.1.0.there (omega arith) (omega arith) in
     omega arith
 
-pub emit_row-overflow_add-row-in-loop-left-2 : goal.emit_row-overflow_add-row-in-loop-left-2
-emit_row-overflow_add-row-in-loop-left-2 t c =
-    let r = (c.loop-left.invariant.3 c.requires).rest in
+pub emit_row-overflow_add-row-in-loop-2 : goal.emit_row-overflow_add-row-in-loop-2
+emit_row-overflow_add-row-in-loop-2 t c =
+    let r = (c.loop.invariant.3 c.requires).rest in
     omega arith
 
 pub gather-gather_empty-requires : goal.gather-gather_empty-requires
@@ -289,13 +298,13 @@ gather_sequence-bounds-content-at-then-asked t c =
 
 pub emit_row-gather-requires : goal.emit_row-gather-requires
 emit_row-gather-requires t c =
-    let cleared = length_front c.loop-left.register c.clear.new.words type_words c.clear.auto.words in
+    let cleared = length_front c.loop.register c.clear.new.words type_words c.clear.auto.words in
     let res = list_of_type c.args.from.now c.args.results.now in
-    let some = some_left c.loop-left-test.true in
+    let some = some_left c.loop-test.true in
     let q = c.requires in
-    let x = c.loop-left.invariant.3 q in
+    let x = c.loop.invariant.3 q in
     let r = x.rest in
-    (omega arith, (first_operand r res some _ cleared, operand_registered r res some c.clear.new.words c.loop-left.register refl c.clear.ensures))
+    (omega arith, (first_operand r res some _ cleared, operand_registered r res some c.clear.new.words c.loop.register refl c.clear.ensures))
 
 pub gather-overflow_add-at-in-2 : goal.gather-overflow_add-at-in-2
 gather-overflow_add-at-in-2 t c =
@@ -317,16 +326,17 @@ gather_sequence-overflow_add-draft-then-asked t c =
     let i = sequence_inside q res (operands_of q b n) n in
     omega arith
 
-pub emit_row-returns-in-TooLarge : goal.emit_row-returns-in-TooLarge
-emit_row-returns-in-TooLarge t c =
-    let cleared = length_front c.loop-left.register c.clear.new.words type_words c.clear.auto.words in
+pub emit_row-returns-in_err-gathered : goal.emit_row-returns-in_err-gathered
+emit_row-returns-in_err-gathered t c =
+    rw (handed_on c.from_residual.result c.from_residual.ensures)
+    (let cleared = length_front c.loop.register c.clear.new.words type_words c.clear.auto.words in
     let res = list_of_type c.args.from.now c.args.results.now in
-    let some = some_left c.loop-left-test.true in
+    let some = some_left c.loop-test.true in
     λ q.
-    let x = c.loop-left.invariant.3 q in
+    let x = c.loop.invariant.3 q in
     let r = x.rest in
-    let g = (c.gather.ensures (first_operand r res some _ cleared) (operand_registered r res some c.clear.new.words c.loop-left.register refl c.clear.ensures)).gathers in
-    x.whole _ _ (operand_wide r res some _ _ g c.in-TooLarge.is)
+    let g = (c.gather.ensures (first_operand r res some _ cleared) (operand_registered r res some c.clear.new.words c.loop.register refl c.clear.ensures)).gathers in
+    x.whole _ _ (operand_wide r res some _ _ g c.in_err-gathered.was))
 
 pub gather-bounds-content-at-in-2 : goal.gather-bounds-content-at-in-2
 gather-bounds-content-at-in-2 t c = (type_there large _ _ c.requires.0.there (sym c.wide-operator.ensures.value ∙ c.in-2.is)).0
@@ -353,14 +363,14 @@ gather_sequence-bounds-draft-end-then-asked t c =
 
 pub emit_row-finish-place-requires : goal.emit_row-finish-place-requires
 emit_row-finish-place-requires t c =
-    let cleared = length_front c.loop-left.register c.clear.new.words type_words c.clear.auto.words in
+    let cleared = length_front c.loop.register c.clear.new.words type_words c.clear.auto.words in
     let res = list_of_type c.args.from.now c.args.results.now in
-    let some = some_left c.loop-left-test.true in
+    let some = some_left c.loop-test.true in
     let q = c.requires in
-    let x = c.loop-left.invariant.3 q in
+    let x = c.loop.invariant.3 q in
     let r = x.rest in
-    let g = (c.gather.ensures (first_operand r res some _ cleared) (operand_registered r res some c.clear.new.words c.loop-left.register refl c.clear.ensures)).gathers in
-    operand_kept r res some _ _ g c.in-Upto.is c.gather.auto.draft
+    let g = (c.gather.ensures (first_operand r res some _ cleared) (operand_registered r res some c.clear.new.words c.loop.register refl c.clear.ensures)).gathers in
+    operand_kept r res some _ _ g c.in_ok-gathered.was c.gather.auto.draft
 
 pub gather_around-settle-requires : goal.gather_around-settle-requires
 gather_around-settle-requires t c =
@@ -372,7 +382,7 @@ gather_around-settle-requires t c =
     let found = content_found _ _ _ q.maps _ _ one.operand _ _ c.content_has-asked.ensures in
     let has = sym found.0 ∙ c.if-asked.true in
     let g = c.emit_row.ensures (around_operands q res one _ (rows-within c.args.notes.now m.room)) in
-    ((around_newest q res one has _ _ g c.in-Upto.is c.emit_row.auto.draft, source_noted q m _), q.fits, q.small)
+    ((around_newest q res one has _ _ g c.in_ok-emitted.was c.emit_row.auto.draft, source_noted q m _), q.fits, q.small)
 
 pub gather_compound-slice_bounds-gather_one-end : goal.gather_compound-slice_bounds-gather_one-end
 gather_compound-slice_bounds-gather_one-end t c = omega arith
@@ -391,16 +401,17 @@ gather-overflow_add-at-in-2-2 t c =
     let i = type_there large _ _ c.requires.0.there b in
     omega arith
 
-pub gather_around-returns-in-TooLarge : goal.gather_around-returns-in-TooLarge
-gather_around-returns-in-TooLarge t c =
-    let res = list_of_type c.args.from.now c.args.results.now in
+pub gather_around-returns-in_err-emitted : goal.gather_around-returns-in_err-emitted
+gather_around-returns-in_err-emitted t c =
+    rw (handed_on c.from_residual.result c.from_residual.ensures)
+    (let res = list_of_type c.args.from.now c.args.results.now in
     let b = c.requires.0 in
     λ q m.
     let one = single_of large _ _ q.there res b in
     let found = content_found _ _ _ q.maps _ _ one.operand _ _ c.content_has-asked.ensures in
     let has = sym found.0 ∙ c.if-asked.true in
     let g = c.emit_row.ensures (around_operands q res one _ (rows-within c.args.notes.now m.room)) in
-    around_wide q res one has _ _ g c.in-TooLarge.is
+    around_wide q res one has _ _ g c.in_err-emitted.was)
 
 pub gather_compound-gather_one-requires : goal.gather_compound-gather_one-requires
 gather_compound-gather_one-requires t c =
@@ -420,15 +431,15 @@ gather_sequence-overflow_add-end t c =
 
 pub emit_row-returns-then-start-place : goal.emit_row-returns-then-start-place
 emit_row-returns-then-start-place t c =
-    let cleared = length_front c.loop-left.register c.clear.new.words type_words c.clear.auto.words in
+    let cleared = length_front c.loop.register c.clear.new.words type_words c.clear.auto.words in
     let res = list_of_type c.args.from.now c.args.results.now in
-    let some = some_left c.loop-left-test.true in
-    let e = c.in-Upto.is in
+    let some = some_left c.loop-test.true in
+    let e = c.in_ok-gathered.was in
     let l = c.gather.auto.draft in
     λ q.
-    let x = c.loop-left.invariant.3 q in
+    let x = c.loop.invariant.3 q in
     let r = x.rest in
-    let g = (c.gather.ensures (first_operand r res some _ cleared) (operand_registered r res some c.clear.new.words c.loop-left.register refl c.clear.ensures)).gathers in
+    let g = (c.gather.ensures (first_operand r res some _ cleared) (operand_registered r res some c.clear.new.words c.loop.register refl c.clear.ensures)).gathers in
     let f = c.finish-place.ensures (operand_kept r res some _ _ g e l) in
     let l' = c.finish-place.auto.draft in
     x.whole _ _ (operand_long r res some _ _ g e l f l' c.if-start-place.true)
@@ -441,11 +452,11 @@ gather-gather_type-requires t c =
     let i = type_there large _ _ q.there b in
     (omega arith, (source_room q, c.requires.1))
 
-pub gather_around-returns-in-Upto : goal.gather_around-returns-in-Upto
-gather_around-returns-in-Upto t c =
+pub gather_around-returns-then-asked : goal.gather_around-returns-then-asked
+gather_around-returns-then-asked t c =
     let res = list_of_type c.args.from.now c.args.results.now in
     let b = c.requires.0 in
-    let e = c.in-Upto.is in
+    let e = c.in_ok-emitted.was in
     let l = c.emit_row.auto.draft in
     λ q m.
     let one = single_of large _ _ q.there res b in
@@ -489,32 +500,33 @@ gather_around-gather_empty-requires t c = (source_room c.requires.1.0, c.require
 pub gather_sequence-slice_bounds-emit_row-end : goal.gather_sequence-slice_bounds-emit_row-end
 gather_sequence-slice_bounds-emit_row-end t c = omega arith
 
-pub emit_row-loop-left-preserved : goal.emit_row-loop-left-preserved
-emit_row-loop-left-preserved t c =
-    let cleared = length_front c.loop-left.register c.clear.new.words type_words c.clear.auto.words in
+pub emit_row-loop-preserved : goal.emit_row-loop-preserved
+emit_row-loop-preserved t c =
+    let cleared = length_front c.loop.register c.clear.new.words type_words c.clear.auto.words in
     let res = list_of_type c.args.from.now c.args.results.now in
-    let some = some_left c.loop-left-test.true in
-    let e = c.in-Upto.is in
+    let some = some_left c.loop-test.true in
+    let e = c.in_ok-gathered.was in
     let l = c.gather.auto.draft in
     let on =
     let q = c.requires in
-    let x = c.loop-left.invariant.3 q in
+    let x = c.loop.invariant.3 q in
     let r = x.rest in
-    let g = (c.gather.ensures (first_operand r res some _ cleared) (operand_registered r res some c.clear.new.words c.loop-left.register refl c.clear.ensures)).gathers in
+    let g = (c.gather.ensures (first_operand r res some _ cleared) (operand_registered r res some c.clear.new.words c.loop.register refl c.clear.ensures)).gathers in
     goes_on' r res some _ _ g e l in (
       omega arith,
-      c.finish-place.auto.draft ∙ l ∙ c.loop-left.invariant.1,
-      c.gather.auto.register ∙ cleared ∙ c.loop-left.invariant.2,
+      c.finish-place.auto.draft ∙ l ∙ c.loop.invariant.1,
+      c.gather.auto.register ∙ cleared ∙ c.loop.invariant.2,
       λ q.
-          let x = c.loop-left.invariant.3 q in
+          let x = c.loop.invariant.3 q in
           let r = x.rest in
-          let g = (c.gather.ensures (first_operand r res some _ cleared) (operand_registered r res some c.clear.new.words c.loop-left.register refl c.clear.ensures)).gathers in
+          let g = (c.gather.ensures (first_operand r res some _ cleared) (operand_registered r res some c.clear.new.words c.loop.register refl c.clear.ensures)).gathers in
           let f = c.finish-place.ensures (operand_kept r res some _ _ g e l) in
           let l' = c.finish-place.auto.draft in
-          record {
+          rw (one_passed c.args.n c.loop.counter)
+          (record {
             rest = other_operands r res some _ _ g e l f l' c.if-start-place.false _ (c.gather.auto.register ∙ cleared);
             whole = λ d o h. x.whole d o (row_on r res some _ _ g e l f l' c.if-start-place.false d o h);
-          },
+          }),
     )
 
 pub gather-returns-in-1 : goal.gather-returns-in-1
@@ -547,7 +559,7 @@ gather_sequence-emit_row-requires t c =
 pub emit_row-returns : goal.emit_row-returns
 emit_row-returns t c =
     λ q.
-    let x = c.loop-left.invariant.3 q in
+    let x = c.loop.invariant.3 q in
     let r = x.rest in
     x.whole _ _ (no_operands r _ (omega arith))
 
@@ -567,11 +579,12 @@ gather_sequence-settle-requires t c =
     let found = row_found _ _ _ q.maps _ _ _ cs.operands _ _ _ c.row_has-asked.ensures in
     let has = sym found.0 ∙ c.if-asked.true in
     let g = c.emit_row.ensures (sequence_operands q res cs n _ (rows-within c.args.notes.now m.room)) in
-    ((sequence_newest q res cs n has _ _ g c.in-Upto.is c.emit_row.auto.draft, source_noted q m _), q.fits, q.small)
+    ((sequence_newest q res cs n has _ _ g c.in_ok-emitted.was c.emit_row.auto.draft, source_noted q m _), q.fits, q.small)
 
-pub gather_sequence-returns-in-TooLarge : goal.gather_sequence-returns-in-TooLarge
-gather_sequence-returns-in-TooLarge t c =
-    let res = list_of_type c.args.from.now c.args.results.now in
+pub gather_sequence-returns-in_err-emitted : goal.gather_sequence-returns-in_err-emitted
+gather_sequence-returns-in_err-emitted t c =
+    rw (handed_on c.from_residual.result c.from_residual.ensures)
+    (let res = list_of_type c.args.from.now c.args.results.now in
     let b = c.requires.0 in
     let n = c.wide-n.ensures.value in
     λ q m.
@@ -579,17 +592,17 @@ gather_sequence-returns-in-TooLarge t c =
     let found = row_found _ _ _ q.maps _ _ _ cs.operands _ _ _ c.row_has-asked.ensures in
     let has = sym found.0 ∙ c.if-asked.true in
     let g = c.emit_row.ensures (sequence_operands q res cs n _ (rows-within c.args.notes.now m.room)) in
-    sequence_wide q res cs n has _ _ g c.in-TooLarge.is
+    sequence_wide q res cs n has _ _ g c.in_err-emitted.was)
 
 pub gather-returns-in_default : goal.gather-returns-in_default
 gather-returns-in_default t c = c.gather_compound.ensures
 
-pub gather_sequence-returns-in-Upto : goal.gather_sequence-returns-in-Upto
-gather_sequence-returns-in-Upto t c =
+pub gather_sequence-returns-then-asked : goal.gather_sequence-returns-then-asked
+gather_sequence-returns-then-asked t c =
     let res = list_of_type c.args.from.now c.args.results.now in
     let b = c.requires.0 in
     let n = c.wide-n.ensures.value in
-    let e = c.in-Upto.is in
+    let e = c.in_ok-emitted.was in
     let l = c.emit_row.auto.draft in
     λ q m.
     let cs = operands_of q b n in

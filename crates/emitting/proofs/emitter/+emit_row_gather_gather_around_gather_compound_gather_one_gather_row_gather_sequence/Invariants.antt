@@ -11,27 +11,21 @@ use Rattle.union.specs.Walks.{list_of_type}
 use Rattle.emitting.proofs.emitter.+emit_row_gather_gather_around_gather_compound_gather_one_gather_row_gather_sequence.Given as goal
 
 -- what is left of the row is written, and the place in the source only goes on
-abbrev pub invariant-emit_row-loop-left : goal.invariant-emit_row-loop-left
-invariant-emit_row-loop-left l =
+abbrev pub invariant-emit_row-loop : goal.invariant-emit_row-loop
+invariant-emit_row-loop l =
     (l.at-2 ≤ l.at)
     × (length l.draft ≡ length l.initial.draft)
     × (length l.register ≡ length l.initial.register)
     × ((q : Operands l.content l.at-2 l.n l.types l.from l.results l.initial.draft l.start l.place-2 (length l.initial.register))
-    → RowRest q (list_of_type l.from l.results) l.draft l.at l.left l.place (length l.register))
+    → RowRest q (list_of_type l.from l.results) l.draft l.at (l.n - l.counter) l.place (length l.register))
 
-abbrev pub decreases-emit_row-loop-left : goal.decreases-emit_row-loop-left
-decreases-emit_row-loop-left l = l.left
-
-abbrev pub invariant-gather_row-loop-left : goal.invariant-gather_row-loop-left
-invariant-gather_row-loop-left l =
+abbrev pub invariant-gather_row-loop : goal.invariant-gather_row-loop
+invariant-gather_row-loop l =
     (l.at-2 ≤ l.at)
     × (length l.draft ≡ length l.initial.draft)
     × (length l.register ≡ length l.initial.register)
     × ((q : Sources l.content l.at-2 l.n l.types l.from l.results l.initial.draft l.row (length l.initial.register)) → Registered l.initial.register q.kept.list
-    → SourcesLeft q (list_of_type l.from l.results) l.register l.draft l.at l.left l.count l.end (length l.register))
-
-abbrev pub decreases-gather_row-loop-left : goal.decreases-gather_row-loop-left
-decreases-gather_row-loop-left l = l.left
+    → SourcesLeft q (list_of_type l.from l.results) l.register l.draft l.at (l.n - l.counter) l.count l.end (length l.register))
 
 abbrev pub decreases-emit_row : goal.decreases-emit_row
 decreases-emit_row l = 5 * (length l.content.now - l.at) + 4

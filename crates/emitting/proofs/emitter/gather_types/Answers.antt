@@ -4,6 +4,7 @@ use mathlib.Core.Path.{refl}
 use borrow.Author.Rules.{rules}
 use Rattle.operands.proofs.GatherLaws.{types_none, types_past}
 use Rattle.emitting.proofs.TypesKeptLaws.{types_start, room_for, types_all, types_wide, types_next}
+use Rattle.reader.proofs.AnswerLaws.{handed_on}
 use Rattle.emitting.proofs.emitter.gather_types.Goals as goal
 
 pub loop-i-init : goal.loop-i-init
@@ -18,14 +19,15 @@ gather_result-requires c =
     let so = c.loop-i.invariant.2 c.requires.0 c.requires.1 in
     (room_for _ _ _ _ _ _ so c.requires.0.small (omega arith), so.registered)
 
-pub returns-in-TooLarge : goal.returns-in-TooLarge
-returns-in-TooLarge c =
-    λ q s.
+pub returns-in_err-gathered : goal.returns-in_err-gathered
+returns-in_err-gathered c =
+    rw (handed_on c.from_residual.result c.from_residual.ensures)
+    (λ q s.
     let room = q.room in
     let so = c.loop-i.invariant.2 q s in
     types_wide _ _ _ _ _ _ so c.loop-i-test.true c.if-results-i.false _ _ _ _
     (c.gather_result.ensures (room_for _ _ _ _ _ _ so q.small (omega arith)) so.registered)
-    c.in-TooLarge.is
+    c.in_err-gathered.was)
 
 pub loop-i-preserved : goal.loop-i-preserved
 loop-i-preserved c = (
@@ -36,7 +38,7 @@ loop-i-preserved c = (
       let so = c.loop-i.invariant.2 q s in
       types_next _ _ _ _ _ _ so c.loop-i-test.true c.if-results-i.false _ _ _ _
       (c.gather_result.ensures (room_for _ _ _ _ _ _ so q.small (omega arith)) so.registered)
-      c.in-Upto.is,
+      c.in_ok-gathered.was,
 )
 
 pub returns : goal.returns

@@ -1,5 +1,4 @@
 -- `gather_types` meets its contract. The loop's invariant: the result types before `i` are among the operands, with their set.
-use Prim.Native.Nat.{◌-◌}
 use mathlib.Core.Path.{◌≡◌}
 use lib.ListN.{length}
 use Rattle.operands.specs.Notes.{Registered}
@@ -13,6 +12,3 @@ invariant-loop-i l =
     × (length l.register ≡ length l.initial.register)
     × ((q : RoomForMore l.initial.draft l.row) → Registered l.initial.register q.kept.list
     → TypesSoFar l.results l.first l.stop l.row q.kept.list l.initial.draft l.draft l.register l.count l.end l.i)
-
-abbrev pub decreases-loop-i : goal.decreases-loop-i
-decreases-loop-i l = l.stop - l.i

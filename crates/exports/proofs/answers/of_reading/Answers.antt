@@ -4,10 +4,10 @@ use Rattle.grammar.specs.Answers.{reading_numbers}
 use Rattle.exports.specs.Exported.{told}
 use Rattle.exports.proofs.answers.of_reading.Goals as goal
 
-pub returns-in-Readable : goal.returns-in-Readable
+pub returns-in-Ok : goal.returns-in-Ok
 unfolding reading_numbers
-returns-in-Readable c = sym (ap (λ a. told (reading_numbers a)) c.in-Readable.is)
+returns-in-Ok c = sym (ap (λ a. told (reading_numbers a)) c.in-Ok.is)
 
-pub returns-in-Refused : goal.returns-in-Refused
+pub returns-in-Err : goal.returns-in-Err
 unfolding reading_numbers
-returns-in-Refused c = c.of_refusal.ensures ∙ sym (ap (λ a. told (reading_numbers a)) c.in-Refused.is)
+returns-in-Err c = c.of_refusal.ensures ∙ sym (ap (λ a. told (reading_numbers a)) c.in-Err.is)

@@ -5,13 +5,13 @@ use Rattle.grammar.specs.Answers.{written_numbers}
 use Rattle.exports.specs.Exported.{told}
 use Rattle.exports.proofs.answers.of_written.Goals as goal
 
-pub returns-in-Length : goal.returns-in-Length
+pub returns-in-Ok : goal.returns-in-Ok
 unfolding written_numbers
-returns-in-Length c =
-    let n = c.in-Length.n in
+returns-in-Ok c =
+    let n = c.in-Ok.n in
     let alone : n ≡ told (record { refusal = 0; value = n }) = omega arith in
-    alone ∙ sym (ap (λ a. told (written_numbers a)) c.in-Length.is)
+    alone ∙ sym (ap (λ a. told (written_numbers a)) c.in-Ok.is)
 
-pub returns-in-Refused : goal.returns-in-Refused
+pub returns-in-Err : goal.returns-in-Err
 unfolding written_numbers
-returns-in-Refused c = c.of_refusal.ensures ∙ sym (ap (λ a. told (written_numbers a)) c.in-Refused.is)
+returns-in-Err c = c.of_refusal.ensures ∙ sym (ap (λ a. told (written_numbers a)) c.in-Err.is)

@@ -1,5 +1,5 @@
 -- `label_numbers` meets its contract. The loop's invariant: the labels before `l` have their numbers.
-use Prim.Native.Nat.{ℕ, ◌-◌, ◌≤◌}
+use Prim.Native.Nat.{ℕ, ◌≤◌}
 use mathlib.Core.List.{List}
 use mathlib.Core.Path.{◌≡◌}
 use lib.ListN.{length, get_or}
@@ -15,11 +15,7 @@ use Rattle.forms.proofs.label_sets.label_numbers.Given as goal
 
 abbrev pub invariant-loop-l : goal.invariant-loop-l
 invariant-loop-l l =
-    (l.l ≤ l.labels)
-    × ((old add : List ℕ) (u : Table) (sets : List TypeSet) → Views old add l.v u → SetsHeld l.words sets → l.count ≡ length sets
+    ((old add : List ℕ) (u : Table) (sets : List TypeSet) → Views old add l.v u → SetsHeld l.words sets → l.count ≡ length sets
     → NumbersOf (λ k. place same_numbers (pairs_labelled u (member l.pairs.words 0) k) sets) l.l l.of)
     × ((k : ℕ) → get_or l.of k 0 ≤ 128)
     × (length l.of ≡ 256)
-
-abbrev pub decreases-loop-l : goal.decreases-loop-l
-decreases-loop-l l = l.labels - l.l

@@ -1,5 +1,4 @@
 -- `labelled_pairs` meets its contract. The loop's invariant: the set has those of the pairs before `p` that have the label.
-use Prim.Native.Nat.{◌-◌, ◌≤◌}
 use mathlib.Core.Bool.{◌&&◌}
 use mathlib.Core.Path.{◌≡◌}
 use lib.Dec.{eqb}
@@ -10,9 +9,5 @@ use Rattle.forms.proofs.label_sets.labelled_pairs.Given as goal
 
 abbrev pub invariant-loop-p : goal.invariant-loop-p
 invariant-loop-p l =
-    (l.p ≤ l.rules)
-    × (member l.set.words 0 ≡ puts (λ j. member l.pairs.words 0 j && eqb (get_or l.labels j 0) l.label) (λ j. j) nothing l.p)
+    (member l.set.words 0 ≡ puts (λ j. member l.pairs.words 0 j && eqb (get_or l.v.labels j 0) l.label) (λ j. j) nothing l.p)
     × (length l.set.words ≡ 8)
-
-abbrev pub decreases-loop-p : goal.decreases-loop-p
-decreases-loop-p l = l.rules - l.p

@@ -1,12 +1,9 @@
 -- `set_label` meets its contract. The loop's invariant: no pair before `p` is in the set.
-use Prim.Native.Nat.{ℕ, ◌-◌, ◌≤◌, ◌<◌}
+use Prim.Native.Nat.{ℕ, ◌<◌}
 use mathlib.Core.Bool.{false}
 use mathlib.Core.Path.{◌≡◌}
 use Rattle.sets.specs.Sets.{member}
 use Rattle.forms.proofs.label_sets.set_label.Given as goal
 
 abbrev pub invariant-loop-p : goal.invariant-loop-p
-invariant-loop-p l = (l.p ≤ l.rules) × ((q : ℕ) → q < l.p → member l.set.words 0 q ≡ false)
-
-abbrev pub decreases-loop-p : goal.decreases-loop-p
-decreases-loop-p l = l.rules - l.p
+invariant-loop-p l = (q : ℕ) → q < l.p → member l.set.words 0 q ≡ false

@@ -1,39 +1,24 @@
--- `pair_numbers` meets its contract. The loop's invariant: the pairs before `p` have their numbers.
+-- `pair_numbers` meets its contract.
 use Prim.Native.Nat.{ℕ, ◌≤◌}
 use native.Mathlib.Omega.{arith}
 use mathlib.Core.Path.{◌∙◌, ap}
 use lib.ListN.{get_or, length-set, length-replicate}
-use borrow.Author.Rules.{rules}
 use Rattle.theory.proofs.Lists.ListLaws.{set_all}
 use Rattle.forms.proofs.ResultLaws.{numbers_more, none_small}
 use Rattle.forms.proofs.set_numbers.pair_numbers.Goals as goal
 
 pub loop-p-init : goal.loop-p-init
-loop-p-init c = (omega arith, λ old add u x is q h. absurd (omega arith), none_small 256 128, length-replicate {A = ℕ} 256 0)
-
-pub label_left-label-requires : goal.label_left-label-requires
-label_left-label-requires c = (c.requires.0, c.requires.1, c.loop-p-test.true)
-
-pub bounds-by_label-label : goal.bounds-by_label-label
-bounds-by_label-label c = search rules
-
-pub bounds-of-p : goal.bounds-of-p
-bounds-of-p c = omega arith
-
-pub overflow_add-p : goal.overflow_add-p
-overflow_add-p c = omega arith
+loop-p-init c = (λ old add u x is q h. absurd (omega arith), none_small 256 128, length-replicate {A = ℕ} 256 0)
 
 pub loop-p-preserved : goal.loop-p-preserved
 loop-p-preserved c =
-    let by = c.args.numbers.of in
-    let long = c.loop-p.invariant.3 in (
-      omega arith,
+    let by = c.args.numbers.of in (
       λ old add u x is.
-          numbers_more c.loop-p.p c.loop-p.of _ (omega arith) _ (c.loop-p.invariant.1 old add u x is)
-          (ap (λ (k : ℕ). get_or by k 0) (c.label_left-label.ensures.0 old add u x is)),
-      set_all c.loop-p.of c.loop-p.p _ (omega arith) (λ n. n ≤ 128) c.loop-p.invariant.2 (c.requires.2 c.label_left-label.result),
-      length-set c.loop-p.of c.loop-p.p _ ∙ long,
+          numbers_more c.loop-p.p c.loop-p.of _ (omega arith) _ (c.loop-p.invariant.0 old add u x is)
+          (ap (λ (k : ℕ). get_or by k 0) (c.label_left.ensures.0 old add u x is)),
+      set_all c.loop-p.of c.loop-p.p _ (omega arith) (λ n. n ≤ 128) c.loop-p.invariant.1 (c.requires.2 c.label_left.result),
+      length-set c.loop-p.of c.loop-p.p _ ∙ c.loop-p.invariant.2,
     )
 
 pub returns : goal.returns
-returns c = (λ old add u x is q h. c.loop-p.invariant.1 old add u x is q (omega arith), c.loop-p.invariant.2)
+returns c = (λ old add u x is q h. c.loop-p.invariant.0 old add u x is q (omega arith), c.loop-p.invariant.1)

@@ -1,12 +1,8 @@
--- `renumbered` meets its contract. The loop's invariant: the numbers before `i` are put down.
-use Prim.Native.Nat.{◌-◌, ◌≤◌}
+-- `renumbered` meets its contract. The loop's invariant: the numbers before `n` are the images.
+use mathlib.Core.List.{map, ◌++◌}
 use mathlib.Core.Path.{◌≡◌}
-use lib.ListN.{length, get_or}
-use Rattle.forms.specs.Worklist.{NumbersOf}
+use lib.ListN.{get_or, take, drop}
 use Rattle.forms.proofs.set_numbers.renumbered.Given as goal
 
-abbrev pub invariant-loop-i : goal.invariant-loop-i
-invariant-loop-i l = (l.i ≤ 256) × NumbersOf (λ j. get_or l.of (get_or l.before j 0) 0) l.i l.after × (length l.after ≡ 256)
-
-abbrev pub decreases-loop-i : goal.decreases-loop-i
-decreases-loop-i l = 256 - l.i
+abbrev pub invariant-loop-n : goal.invariant-loop-n
+invariant-loop-n l = l.n-items ≡ map (λ p. get_or l.numbers.of p 0) (take l.n-index l.fn.lists.numbers) ++ drop l.n-index l.fn.lists.numbers

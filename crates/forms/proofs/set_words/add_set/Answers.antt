@@ -7,11 +7,6 @@ use Rattle.forms.specs.SetWords.{SetsCounted}
 use Rattle.forms.proofs.SetWordLaws.{old_put, new_put, few_put}
 use Rattle.forms.proofs.set_words.add_set.Goals as goal
 
-pub set_number-requires : goal.set_number-requires
-set_number-requires c =
-    let few = c.requires.1.few in
-    record { few = omega arith; room = c.requires.1.room; eight = c.requires.1.eight }
-
 pub returns-then-set_number-count : goal.returns-then-set_number-count
 returns-then-set_number-count c = (
   λ sets s held counted is ascending once.
@@ -20,9 +15,6 @@ returns-then-set_number-count c = (
       (c.set_number.ensures.0 sets s held counted is ascending) c.if-set_number-count.true,
   few_put c.args.most c.args.count c.requires.1.few,
 )
-
-pub put_set-requires : goal.put_set-requires
-put_set-requires c = c.requires
 
 pub returns : goal.returns
 returns c = (

@@ -15,7 +15,6 @@ use Rattle.forms.proofs.worklist.more_sets.Given as goal
 abbrev pub invariant-loop-next : goal.invariant-loop-next
 invariant-loop-next l =
     (l.total ≤ l.most)
-    × (length l.words ≡ length l.initial.words)
     × ((lim : Limits) (u : Table) → l.most ≡ lim.types → Views l.old l.add l.v u → ListsOf (fruitful_of u) l.lists
     → SetsHeld l.initial.words (label_sets u (is_start u))
     → l.count ≡ length (label_sets u (is_start u))

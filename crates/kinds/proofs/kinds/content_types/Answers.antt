@@ -1,5 +1,3 @@
--- `kinds::content_types` meets its contract. The loop's invariant: the types in the set and those that stand from `at` on are the
--- content's.
 use Prim.Native.Nat.{ℕ, ◌+◌}
 use native.Mathlib.Omega.{arith}
 use mathlib.Core.List.{List}
@@ -10,35 +8,22 @@ use Rattle.kinds.proofs.SeenTypes.{none_seen}
 use Rattle.kinds.proofs.StandingTypes.{TypesLeft, left_start, left_type, left_count, left_alone, left_end}
 use Rattle.kinds.proofs.kinds.content_types.Goals as goal
 
-pub clear-requires : goal.clear-requires
-clear-requires c = tt
-
 pub loop-at-init : goal.loop-at-init
 loop-at-init c = (refl, λ d e. left_start _ d _ (none_seen _ (length c.args.words.now) c.clear.ensures) e)
-
-pub wide-operator-requires : goal.wide-operator-requires
-wide-operator-requires c = tt
 
 pub bounds-content-at-in-2 : goal.bounds-content-at-in-2
 bounds-content-at-in-2 c =
     (left_type _ _ _ c.loop-at.at (c.loop-at.invariant.1 c.requires.0.content c.requires.0.bytes_are) (omega arith) (omega arith)).0
 
-pub wide-k-requires : goal.wide-k-requires
-wide-k-requires c = tt
-
-pub put-requires : goal.put-requires
-put-requires c = omega arith
-
 pub loop-at-preserved-in-2 : goal.loop-at-preserved-in-2
-loop-at-preserved-in-2 c =
-    let same = c.loop-at.invariant.0 in (
-      c.put.auto.words ∙ same,
-      λ d e.
-          subst
-          (λ (l : List ℕ). TypesLeft c.args.content.now l (types_in d) (c.loop-at.at + 2))
-          (sym c.put.ensures)
-          ((left_type _ _ _ c.loop-at.at (c.loop-at.invariant.1 d e) (omega arith) (omega arith)).1 _ c.wide-k.ensures.value (omega arith)),
-    )
+loop-at-preserved-in-2 c = (
+  c.put.auto.words ∙ c.loop-at.invariant.0,
+  λ d e.
+      subst
+      (λ (l : List ℕ). TypesLeft c.args.content.now l (types_in d) (c.loop-at.at + 2))
+      (sym c.put.ensures)
+      ((left_type _ _ _ c.loop-at.at (c.loop-at.invariant.1 d e) (omega arith) (omega arith)).1 _ c.from-k.ensures (omega arith)),
+)
 
 pub loop-at-preserved-then-operator-lt5 : goal.loop-at-preserved-then-operator-lt5
 loop-at-preserved-then-operator-lt5 c =

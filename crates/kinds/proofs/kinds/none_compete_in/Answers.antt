@@ -1,4 +1,3 @@
--- `kinds::none_compete_in` meets its contract.
 use native.Mathlib.Omega.{arith}
 use mathlib.Core.Path.{◌∙◌, ap₂}
 use Rattle.grammar.specs.Content.{types_in}
@@ -7,30 +6,12 @@ use Rattle.reader.proofs.TableIndexLaws.{rule_at}
 use Rattle.kinds.proofs.IndexedKinds.{types_below}
 use Rattle.kinds.proofs.kinds.none_compete_in.Goals as goal
 
-pub content_from-from-requires : goal.content_from-from-requires
-content_from-from-requires c = omega (arith, c.requires.1)
-
-pub content_to-to-requires : goal.content_to-to-requires
-content_to-to-requires c = omega (arith, c.requires.1)
-
-pub slice_bounds-content_types-count : goal.slice_bounds-content_types-count
-slice_bounds-content_types-count c =
-    let r = rule_at c.requires.0.held.indexes c.args.i c.requires.1 in omega (arith, r.2.content.inside.order, c.content_from-from.ensures, c.content_to-to.ensures)
-
-pub slice_bounds-content_types-start : goal.slice_bounds-content_types-start
-slice_bounds-content_types-start c =
-    let r = rule_at c.requires.0.held.indexes c.args.i c.requires.1 in omega (arith, r.2.content.inside.order, c.content_from-from.ensures, c.content_to-to.ensures)
-
-pub slice_bounds-content_types-end : goal.slice_bounds-content_types-end
-slice_bounds-content_types-end c =
-    let r = rule_at c.requires.0.held.indexes c.args.i c.requires.1 in omega (arith, r.2.content.inside.within, c.content_to-to.ensures)
-
 pub content_types-requires : goal.content_types-requires
 content_types-requires c =
     let r = rule_at c.requires.0.held.indexes c.args.i c.requires.1 in (record { content = r.0.content; bytes_are = ap₂ (part c.args.table.now) c.content_from-from.ensures c.content_to-to.ensures ∙ r.2.content.bytes_are }, c.requires.2)
 
 pub none_compete-requires : goal.none_compete-requires
-none_compete-requires c = (types_below c.requires.0, omega (arith, c.requires.2))
+none_compete-requires c = (types_below c.requires.0, omega arith)
 
 pub returns : goal.returns
 returns c =

@@ -1,5 +1,5 @@
--- `kinds::none_compete_in_any` meets its contract. The loop's invariant: the content of every rule before `rule` passes.
-use Prim.Native.Nat.{ℕ, ◌-◌, ◌<◌}
+-- The loop's invariant: the content of every rule before `rule` passes.
+use Prim.Native.Nat.{ℕ, ◌<◌}
 use mathlib.Core.Bool.{true}
 use mathlib.Core.Option.{some}
 use mathlib.Core.Path.{◌≡◌}
@@ -15,6 +15,3 @@ invariant-loop-rule l =
     (length l.words ≡ length l.initial.words)
     × ((k : ℕ) → k < l.rule → (g : Table) (r : Rule) → Indexes l.table l.index g → get_elem? g.rules k ≡ some r
     → none_compete g (types_in r.content) ≡ true)
-
-abbrev pub decreases-loop-rule : goal.decreases-loop-rule
-decreases-loop-rule l = l.rules - l.rule

@@ -1,11 +1,10 @@
--- `kinds::single_type_table` meets its contract: the pairs, the starts, then the contents.
 use native.Mathlib.Omega.{arith}
 use mathlib.Core.Path.{sym, ◌∙◌}
 use Rattle.kinds.proofs.IndexedKinds.{types_below, pairs_repeated, starts_compete, then_contents}
 use Rattle.kinds.proofs.kinds.single_type_table.Goals as goal
 
-pub distinct_pairs-requires : goal.distinct_pairs-requires
-distinct_pairs-requires c = c.requires.0.held.indexes.few_rules
+pub returns-then-not-distinct_pairs : goal.returns-then-not-distinct_pairs
+returns-then-not-distinct_pairs c = λ g x. sym (pairs_repeated g _ (c.distinct_pairs.ensures _ g x) c.if-not-distinct_pairs.true)
 
 pub start_types-requires : goal.start_types-requires
 start_types-requires c = (types_below c.requires.0, c.requires.1)
@@ -13,35 +12,16 @@ start_types-requires c = (types_below c.requires.0, c.requires.1)
 pub none_compete-requires : goal.none_compete-requires
 none_compete-requires c = (types_below c.requires.0, omega arith)
 
-pub none_compete_in_any-requires : goal.none_compete_in_any-requires
-none_compete_in_any-requires c = (c.requires.0, omega arith)
-
 pub returns-then-none_compete : goal.returns-then-none_compete
 returns-then-none_compete c =
     λ g x.
     c.none_compete_in_any.ensures g x
-    ∙ sym
-    (then_contents
-    g
-    _
-    (c.distinct_pairs.ensures _ g x)
-    _
-    (c.none_compete.ensures _ g g.starts x (c.start_types.ensures _ g x))
-    c.if-distinct_pairs.true
-    c.if-none_compete.true)
+    ∙ sym (then_contents g _ (c.distinct_pairs.ensures _ g x) _
+    (c.none_compete.ensures _ g g.starts x (c.start_types.ensures _ g x)) c.if-not-distinct_pairs.false c.if-none_compete.true)
 
-pub returns-then-distinct_pairs : goal.returns-then-distinct_pairs
-returns-then-distinct_pairs c =
+pub returns-else-none_compete : goal.returns-else-none_compete
+returns-else-none_compete c =
     λ g x.
-    sym
-    (starts_compete
-    g
-    _
-    (c.distinct_pairs.ensures _ g x)
-    _
-    (c.none_compete.ensures _ g g.starts x (c.start_types.ensures _ g x))
-    c.if-distinct_pairs.true
-    c.if-none_compete.false)
-
-pub returns : goal.returns
-returns c = λ g x. sym (pairs_repeated g _ (c.distinct_pairs.ensures _ g x) c.if-distinct_pairs.false)
+    c.if-none_compete.false
+    ∙ sym (starts_compete g _ (c.distinct_pairs.ensures _ g x) _
+    (c.none_compete.ensures _ g g.starts x (c.start_types.ensures _ g x)) c.if-not-distinct_pairs.false c.if-none_compete.false)

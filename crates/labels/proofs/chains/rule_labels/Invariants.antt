@@ -1,5 +1,5 @@
--- `rule_labels` meets its contract. The loop's invariant: the labels of the rules before `i` are put down.
-use Prim.Native.Nat.{ℕ, ◌-◌, ◌<◌}
+-- The loop's invariant: the labels of the rules before `i` are put down.
+use Prim.Native.Nat.{ℕ, ◌<◌}
 use mathlib.Core.Path.{◌≡◌}
 use lib.ListN.{length, get_or}
 use Rattle.reader.specs.TableIndex.{rule_label}
@@ -7,6 +7,3 @@ use Rattle.labels.proofs.chains.rule_labels.Given as goal
 
 abbrev pub invariant-loop-i : goal.invariant-loop-i
 invariant-loop-i l = ((j : ℕ) → j < l.i → get_or l.labels j 0 ≡ rule_label l.index j) × (length l.labels ≡ 128)
-
-abbrev pub decreases-loop-i : goal.decreases-loop-i
-decreases-loop-i l = l.rules - l.i

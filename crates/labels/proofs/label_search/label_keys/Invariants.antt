@@ -1,5 +1,5 @@
--- `label_keys` meets its contract. The loop's invariant: the keys of the names before `i` are put down.
-use Prim.Native.Nat.{ℕ, ◌-◌, ◌<◌}
+-- The loop's invariant: the keys of the names before `i` are put down.
+use Prim.Native.Nat.{ℕ, ◌<◌}
 use mathlib.Core.Path.{◌≡◌}
 use lib.ListN.{length, get_or}
 use Rattle.labels.specs.LabelKeys.{label_key}
@@ -7,6 +7,3 @@ use Rattle.labels.proofs.label_search.label_keys.Given as goal
 
 abbrev pub invariant-loop-i : goal.invariant-loop-i
 invariant-loop-i l = ((j : ℕ) → j < l.i → get_or l.keys j 0 ≡ label_key l.table l.index j) × (length l.keys ≡ 128)
-
-abbrev pub decreases-loop-i : goal.decreases-loop-i
-decreases-loop-i l = l.labels - l.i

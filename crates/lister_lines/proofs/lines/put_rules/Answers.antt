@@ -11,24 +11,14 @@ use Rattle.lister_lines.proofs.lines.put_rules.Goals as goal
 
 pub loop-i-init : goal.loop-i-init
 unfolding joined_of
-loop-i-init c = (omega arith, refl, omega arith, λ f. put_none c.args.text.now c.args.at (omega arith))
-
-pub put_rule_line-end-requires : goal.put_rule_line-end-requires
-put_rule_line-end-requires c = (c.requires.0, omega arith, omega arith)
-
-pub overflow_add-i : goal.overflow_add-i
-overflow_add-i c = omega arith
+loop-i-init c = (refl, omega arith, λ f. put_none c.args.text.now c.args.at (omega arith))
 
 pub loop-i-preserved : goal.loop-i-preserved
 loop-i-preserved c = (
   omega arith,
   omega arith,
-  omega arith,
-  λ f. put_as (lines_next f c.loop-i.i (omega arith)) (put_join (c.loop-i.invariant.3 f) (c.put_rule_line-end.ensures.put f)),
+  λ f. put_as (lines_next f c.loop-i.i (omega arith)) (put_join (c.loop-i.invariant.2 f) (c.put_rule_line-end.ensures.put f)),
 )
-
-pub shape_of-text : goal.shape_of-text
-shape_of-text c = c.loop-i.invariant.1
 
 pub returns : goal.returns
 returns c =
@@ -36,6 +26,6 @@ returns c =
       put =
           λ f.
           let n = f.held.indexes.rules in
-          put_as (ap (joined_of (rule_line f.table)) (take_all c.loop-i.i f.table.rules (omega arith))) (c.loop-i.invariant.3 f);
+          put_as (ap (joined_of (rule_line f.table)) (take_all c.loop-i.i f.table.rules (omega arith))) (c.loop-i.invariant.2 f);
       short = omega arith;
     }

@@ -1,5 +1,5 @@
 -- `put_rules` meets its contract. The loop's invariant: the lines of the rules before `i` are written.
-use Prim.Native.Nat.{◌+◌, ◌-◌, ◌*◌, ◌≤◌}
+use Prim.Native.Nat.{◌+◌, ◌*◌, ◌≤◌}
 use mathlib.Core.Path.{◌≡◌}
 use lib.ListN.{length, take}
 use Rattle.grammar.specs.Lists.{joined_of}
@@ -11,10 +11,6 @@ use Rattle.lister_lines.proofs.lines.put_rules.Given as goal
 
 abbrev pub invariant-loop-i : goal.invariant-loop-i
 invariant-loop-i l =
-    (l.i ≤ l.rules)
-    × (length l.text ≡ length l.initial.text)
+    (length l.text ≡ length l.initial.text)
     × (l.end ≤ l.at + 3142 * l.i)
     × ((f : SomeHeld large l.table l.index) → Put l.initial.text l.at (joined_of (rule_line f.table) (take l.i f.table.rules)) l.text l.end)
-
-abbrev pub decreases-loop-i : goal.decreases-loop-i
-decreases-loop-i l = l.rules - l.i

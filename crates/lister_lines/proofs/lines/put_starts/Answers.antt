@@ -12,18 +12,12 @@ use Rattle.lister_lines.proofs.lines.put_starts.Goals as goal
 
 pub loop-i-init : goal.loop-i-init
 unfolding joined_of
-loop-i-init c = (omega arith, refl, omega arith, λ f. put_none c.args.text.now c.args.at (omega arith))
-
-pub start_type-requires : goal.start_type-requires
-start_type-requires c = omega arith
+loop-i-init c = (refl, omega arith, λ f. put_none c.args.text.now c.args.at (omega arith))
 
 pub put_start_line-end-requires : goal.put_start_line-end-requires
 put_start_line-end-requires c =
     let k = start_small c.requires.0.held.indexes c.requires.0.held.within c.loop-i.i (omega arith) in
     (omega arith, omega arith)
-
-pub overflow_add-i : goal.overflow_add-i
-overflow_add-i c = omega arith
 
 pub loop-i-preserved : goal.loop-i-preserved
 loop-i-preserved c =
@@ -34,12 +28,8 @@ loop-i-preserved c =
     let n = p.next_is in (
       omega arith,
       omega arith,
-      omega arith,
-      λ f. put_as (starts_next f c.loop-i.i (omega arith)) (put_join (c.loop-i.invariant.3 f) (put_as (ap start_line e) p)),
+      λ f. put_as (starts_next f c.loop-i.i (omega arith)) (put_join (c.loop-i.invariant.2 f) (put_as (ap start_line e) p)),
     )
-
-pub shape_of-text : goal.shape_of-text
-shape_of-text c = c.loop-i.invariant.1
 
 pub returns : goal.returns
 returns c =
@@ -47,6 +37,6 @@ returns c =
       put =
           λ f.
           let n = f.held.indexes.starts in
-          put_as (ap (joined_of start_line) (take_all c.loop-i.i f.table.starts (omega arith))) (c.loop-i.invariant.3 f);
+          put_as (ap (joined_of start_line) (take_all c.loop-i.i f.table.starts (omega arith))) (c.loop-i.invariant.2 f);
       short = omega arith;
     }

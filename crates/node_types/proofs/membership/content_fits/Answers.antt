@@ -1,4 +1,3 @@
--- `content_fits` meets its contract: no children have no sets.
 use Prim.Native.Nat.{ℕ}
 use mathlib.Core.Path.{sym, ◌∙◌, ap}
 use Rattle.walks.specs.TypeSets.{tests_at}
@@ -9,12 +8,3 @@ pub returns-then-count-eq0 : goal.returns-then-count-eq0
 unfolding tests_at
 returns-then-count-eq0 c =
     c.requires.3 ∙ sym (ap (λ (n : ℕ). run_at c.args.content.now (tests_at c.args.words.now c.args.top n)) c.if-count-eq0.true)
-
-pub matches-requires : goal.matches-requires
-matches-requires c = (c.requires.0, c.requires.1, c.requires.2)
-
-pub shape_of-marks : goal.shape_of-marks
-shape_of-marks c = c.matches.auto.marks
-
-pub returns : goal.returns
-returns c = c.matches.ensures

@@ -1,4 +1,3 @@
--- `lets_in_read` meets its contract: a start is among the root's types.
 use Prim.Native.Nat.{ℕ}
 use mathlib.Core.Bool.{Bool}
 use mathlib.Core.Path.{◌∙◌, ap}
@@ -7,14 +6,8 @@ use Rattle.grammar.specs.Membership.{lets_in}
 use Rattle.kinds.proofs.IndexedKinds.{types_below}
 use Rattle.node_types.proofs.membership.lets_in_read.Goals as goal
 
-pub root_types-at-requires : goal.root_types-at-requires
-root_types-at-requires c = c.requires
-
 pub some_start-requires : goal.some_start-requires
 some_start-requires c = (types_below c.requires.0, c.root_types-at.ensures.inside)
-
-pub shape_of-words : goal.shape_of-words
-shape_of-words c = c.root_types-at.auto.words
 
 pub returns : goal.returns
 unfolding lets_in

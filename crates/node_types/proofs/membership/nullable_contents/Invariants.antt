@@ -1,5 +1,5 @@
--- `nullable_contents` meets its contract. The loop's invariant: whether each content before that of `rule` matches no children.
-use Prim.Native.Nat.{ℕ, ◌-◌, ◌≤◌, ◌<◌}
+-- The loop's invariant: whether each content before that of `rule` matches no children.
+use Prim.Native.Nat.{ℕ, ◌<◌}
 use mathlib.Core.Bool.{false}
 use mathlib.Core.List.{[]}
 use mathlib.Core.Path.{◌≡◌}
@@ -10,10 +10,6 @@ use Rattle.node_types.proofs.membership.nullable_contents.Given as goal
 
 abbrev pub invariant-loop-rule : goal.invariant-loop-rule
 invariant-loop-rule l =
-    (l.rule ≤ l.rules)
-    × (length l.marks ≡ length l.initial.marks)
+    (length l.marks ≡ length l.initial.marks)
     × (length l.nullable ≡ 128)
     × ((k : ℕ) → k < l.rule → get_or l.nullable k false ≡ run_at (part l.table (content_from l.index k) (content_to l.index k)) [])
-
-abbrev pub decreases-loop-rule : goal.decreases-loop-rule
-decreases-loop-rule l = l.rules - l.rule

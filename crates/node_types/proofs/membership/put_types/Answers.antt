@@ -1,4 +1,3 @@
--- `put_types` meets its contract: the set has the types of those rules before the present one that fit.
 use Prim.Native.Nat.{ℕ, ◌+◌, ◌<◌}
 use native.Mathlib.Omega.{arith}
 use mathlib.Core.Bool.{Bool}
@@ -13,53 +12,26 @@ use Rattle.node_types.proofs.StackLaws.{tests_behind}
 use Rattle.node_types.proofs.TypeLaws as laws
 use Rattle.node_types.proofs.membership.put_types.Goals as goal
 
-pub store-requires : goal.store-requires
-store-requires c = omega arith
-
-pub overflow_add-label : goal.overflow_add-label
-overflow_add-label c = omega arith
-
-pub bounds-by_label-label : goal.bounds-by_label-label
-bounds-by_label-label c = omega arith
-
 pub loop-i-init : goal.loop-i-init
 loop-i-init c =
     let index = c.args.index.now in
     let first = c.store.new.words in
     let tests = tests_at first (c.args.node.at + 4) c.args.node.children in
-    let at = subst (PlaceFrom (rule_label index) (rule_count index) c.args.label 0) (sym c.wide-i.ensures.value) (c.requires.1.first c.args.label c.requires.3) in (
+    let at = subst (PlaceFrom (rule_label index) (rule_count index) c.args.label 0) (sym c.from-i.ensures) (c.requires.1.first c.args.label c.requires.3) in (
       omega (arith, at.within),
       refl,
       refl,
       refl,
       λ h. at.found (omega arith),
       λ g x h named marked.
-          laws.types_passed x h tests c.args.label named _ 0 c.wide-i.result at
+          laws.types_passed x h tests c.args.label named _ 0 c.from-i.result at
           ((laws.emptied c.args.words.now first _ c.args.node.at (omega arith) c.empty.ensures c.store.ensures).0 ∙ sym (laws.types_none g h tests)),
     )
-
-pub bounds-nullable-i : goal.bounds-nullable-i
-bounds-nullable-i c = omega (arith, c.requires.0.held.indexes.few_rules, c.rule_count-rules.ensures)
-
-pub rule_fits-fits-requires : goal.rule_fits-fits-requires
-rule_fits-fits-requires c =
-    let below : c.loop-i.i < rule_count c.args.index.now = omega (arith, c.loop-i-test.true, c.rule_count-rules.ensures) in
-    (c.requires.0, below, c.requires.2 c.loop-i.i below, omega (arith, c.requires.4, c.loop-i.invariant.1), omega (arith, c.loop-i.invariant.2))
-
-pub rule_type-requires : goal.rule_type-requires
-rule_type-requires c = omega (arith, c.requires.0.held.indexes.few_rules, c.rule_count-rules.ensures)
 
 pub put_if-requires : goal.put_if-requires
 put_if-requires c =
     let type = (laws.known_rule c.requires.0.held c.loop-i.i (omega (arith, c.loop-i-test.true, c.rule_count-rules.ensures))).type_below in
     (omega (arith, c.rule_type.ensures), omega (arith, c.loop-i.invariant.2, c.store.auto.words))
-
-pub bounds-by_label-i : goal.bounds-by_label-i
-bounds-by_label-i c = omega (arith, c.requires.0.held.indexes.few_rules, c.rule_count-rules.ensures)
-
-pub loop-i-smaller : goal.loop-i-smaller
-loop-i-smaller c =
-    let onward = (c.requires.1.after c.loop-i.i (omega (arith, c.loop-i-test.true, c.rule_count-rules.ensures))).onward in omega (arith, c.wide-i-in-loop-i.ensures.value)
 
 pub loop-i-preserved : goal.loop-i-preserved
 loop-i-preserved c =
@@ -70,9 +42,9 @@ loop-i-preserved c =
     let below : i < rule_count index = omega (arith, c.loop-i-test.true) in
     let tests = tests_at first (c.args.node.at + 4) c.args.node.children in
     let same : tests_at old (c.args.node.at + 4) c.args.node.children ≡ tests = tests_behind first old (c.args.node.at + 4) c.loop-i.invariant.3 c.args.node.children (c.args.node.at + 4) (omega arith) in
-    let onward : PlaceFrom (rule_label index) (rule_count index) c.args.label (i + 1) c.wide-i-in-loop-i.result =
-    subst (λ (k : ℕ). PlaceFrom (rule_label index) (rule_count index) k (i + 1) c.wide-i-in-loop-i.result) (c.loop-i.invariant.4 c.loop-i-test.true)
-    (subst (PlaceFrom (rule_label index) (rule_count index) (rule_label index i) (i + 1)) (sym c.wide-i-in-loop-i.ensures.value) (c.requires.1.after i below)) in (
+    let onward : PlaceFrom (rule_label index) (rule_count index) c.args.label (i + 1) c.from-i-in-loop-i.result =
+    subst (λ (k : ℕ). PlaceFrom (rule_label index) (rule_count index) k (i + 1) c.from-i-in-loop-i.result) (c.loop-i.invariant.4 c.loop-i-test.true)
+    (subst (PlaceFrom (rule_label index) (rule_count index) (rule_label index i) (i + 1)) (sym c.from-i-in-loop-i.ensures) (c.requires.1.after i below)) in (
       omega (arith, onward.within),
       c.rule_fits-fits.auto.marks ∙ c.loop-i.invariant.1,
       c.put_if.auto.words ∙ c.loop-i.invariant.2,
@@ -80,7 +52,7 @@ loop-i-preserved c =
       λ h. onward.found (omega arith),
       λ g x h named marked.
           let rule = laws.known_rule x i below in
-          laws.types_passed x h tests c.args.label named _ (i + 1) c.wide-i-in-loop-i.result onward
+          laws.types_passed x h tests c.args.label named _ (i + 1) c.from-i-in-loop-i.result onward
           (laws.types_step g h tests i rule.rule rule.listed old c.put_if.new.words c.args.node.at c.rule_fits-fits.result c.rule_type.result
           (c.rule_fits-fits.ensures g x rule.rule rule.listed h marked (laws.asked_named x i below h c.args.label named (c.loop-i.invariant.4 c.loop-i-test.true))
           ∙ ap (λ (ts : List (ℕ → Bool)). rule_fits g h ts rule.rule) same)
@@ -88,12 +60,6 @@ loop-i-preserved c =
           c.put_if.ensures
           (c.loop-i.invariant.5 g x h named marked)),
     )
-
-pub shape_of-marks : goal.shape_of-marks
-shape_of-marks c = c.loop-i.invariant.1
-
-pub shape_of-words : goal.shape_of-words
-shape_of-words c = c.loop-i.invariant.2 ∙ c.store.auto.words
 
 pub returns : goal.returns
 returns c =

@@ -1,4 +1,4 @@
--- `put_types` meets its contract: the set has the types of those rules before the present one that fit.
+-- The set has the types of those rules before the present one that fit.
 use Prim.Native.Nat.{◌+◌, ◌-◌, ◌≤◌, ◌<◌}
 use mathlib.Core.Path.{◌≡◌}
 use lib.ListN.{length, take, drop}

@@ -1,4 +1,3 @@
--- `root_types` meets its contract: from the top on, set by set, stand the types of the trees of the nodes gone through.
 use Prim.Native.Nat.{ℕ, ◌+◌, ◌*◌, ◌-◌, ◌%◌}
 use native.Mathlib.Omega.{arith}
 use mathlib.Core.Path.{◌≡◌, refl, sym, ◌∙◌, ap, ap₂, subst}
@@ -18,126 +17,70 @@ use Rattle.node_types.proofs.StackLaws as laws
 use Rattle.node_types.proofs.TypeLaws.{rules_keyed, label_few}
 use Rattle.node_types.proofs.membership.root_types.Goals as goal
 
-pub chained_labels-by_key-requires : goal.chained_labels-by_key-requires
-chained_labels-by_key-requires c = (record { table = c.requires.0.table; indexes = c.requires.0.held.indexes })
-
 pub chained_rules-by_label-requires : goal.chained_rules-by_label-requires
 chained_rules-by_label-requires c = rules_keyed c.requires.0.held
 
-pub slice_bounds-nullable_contents-end : goal.slice_bounds-nullable_contents-end
-slice_bounds-nullable_contents-end c = sym (length-replicate {A = ℕ} 1024 0)
-
-pub nullable_contents-nullable-requires : goal.nullable_contents-nullable-requires
-nullable_contents-nullable-requires c = let long = length-replicate {A = ℕ} 1024 0 in (c.requires.0, omega arith, omega arith)
-
-pub overflow_mul-top : goal.overflow_mul-top
-overflow_mul-top c = omega (arith, c.requires.1.indexed.few)
-
-pub loop-i-init : goal.loop-i-init
-loop-i-init c =
+pub loop-at-init : goal.loop-at-init
+loop-at-init c =
     let nodes = index_of c.args.names.now c.args.sizes.now c.args.shapes.now c.args.nodes in
     let none = laws.none_count c.args.document.now nodes in
     let long = length-replicate {A = ℕ} 1024 0 in (
-      omega arith,
       c.nullable_contents-nullable.auto.marks ∙ long,
       refl,
       omega arith,
       λ g x. laws.none_stacked c.args.document.now nodes g c.args.words.now (4 * c.args.nodes),
     )
 
-pub offset_bounds-names-at : goal.offset_bounds-names-at
-offset_bounds-names-at c = omega (arith, c.requires.1.indexed.few, c.loop-i.invariant.0, c.loop-i-test.true)
-
-pub bounds-names-at : goal.bounds-names-at
-bounds-names-at c = omega (arith, c.requires.1.indexed.few, c.loop-i.invariant.0, c.loop-i-test.true)
-
-pub offset_bounds-sizes-at : goal.offset_bounds-sizes-at
-offset_bounds-sizes-at c = omega (arith, c.requires.1.indexed.few, c.loop-i.invariant.0, c.loop-i-test.true)
-
-pub bounds-sizes-at : goal.bounds-sizes-at
-bounds-sizes-at c = omega (arith, c.requires.1.indexed.few, c.loop-i.invariant.0, c.loop-i-test.true)
-
-pub overflow_add-to : goal.overflow_add-to
-overflow_add-to c = omega (arith, c.wider-from.ensures.small, c.wider.ensures.small)
-
-pub offset_bounds-shapes-at : goal.offset_bounds-shapes-at
-offset_bounds-shapes-at c = omega (arith, c.requires.1.indexed.few, c.loop-i.invariant.0, c.loop-i-test.true)
-
-pub bounds-shapes-at : goal.bounds-shapes-at
-bounds-shapes-at c = omega (arith, c.requires.1.indexed.few, c.loop-i.invariant.0, c.loop-i-test.true)
-
-pub slice_bounds-label_of-end : goal.slice_bounds-label_of-end
-slice_bounds-label_of-end c =
-    let within = c.requires.1.indexed.within (c.loop-i.i - 1) (omega (arith, c.loop-i.invariant.0)) in omega (arith, within, c.wider-from.ensures.value, c.wider.ensures.value)
-
-pub label_of-label-requires : goal.label_of-label-requires
-label_of-label-requires c =
-    ((record { table = c.requires.0.table; indexes = c.requires.0.held.indexes }), c.chained_labels-by_key.ensures)
-
 pub overflow_sub-base : goal.overflow_sub-base
 overflow_sub-base c =
-    let fits = laws.round_room _ _ _ _ _ c.loop-i.i c.loop-i.top c.requires.1 c.loop-i-test.true c.loop-i.invariant.0 c.loop-i.invariant.3 in omega (arith, fits.0)
-
-pub slice_bounds-put_types-end : goal.slice_bounds-put_types-end
-slice_bounds-put_types-end c = sym c.loop-i.invariant.1
+    let fits = laws.round_room _ _ _ _ _ c.loop-at.at c.loop-at.top c.requires.1 c.loop-at-test.true c.loop-at.auto.at c.loop-at.invariant.2 in omega (arith, fits.0)
 
 pub put_types-requires : goal.put_types-requires
 put_types-requires c =
-    let fits = laws.round_room _ _ _ _ _ c.loop-i.i c.loop-i.top c.requires.1 c.loop-i-test.true c.loop-i.invariant.0 c.loop-i.invariant.3 in (
+    let fits = laws.round_room _ _ _ _ _ c.loop-at.at c.loop-at.top c.requires.1 c.loop-at-test.true c.loop-at.auto.at c.loop-at.invariant.2 in (
       c.requires.0,
       c.chained_rules-by_label.ensures,
       c.nullable_contents-nullable.ensures,
       label_few c.requires.0.held _ (c.label_of-label.ensures c.requires.0.table c.requires.0.held.indexes),
       omega arith,
-      omega (arith, fits.0, fits.1, fits.2, c.requires.2, c.loop-i.invariant.2, c.wider-shape.ensures.value),
+      omega (arith, fits.0, fits.1, fits.2, c.requires.2, c.loop-at.invariant.1, c.from-shape.ensures),
     )
-
-pub overflow_mul-top-in-loop-i : goal.overflow_mul-top-in-loop-i
-overflow_mul-top-in-loop-i c = omega (arith, c.wider-shape.ensures.small)
-
-pub overflow_add-top : goal.overflow_add-top
-overflow_add-top c =
-    let fits = laws.round_room _ _ _ _ _ c.loop-i.i c.loop-i.top c.requires.1 c.loop-i-test.true c.loop-i.invariant.0 c.loop-i.invariant.3 in omega (arith, fits.0, fits.1, fits.2, c.wider-shape.ensures.value)
 
 pub bring-requires : goal.bring-requires
 bring-requires c =
-    let fits = laws.round_room _ _ _ _ _ c.loop-i.i c.loop-i.top c.requires.1 c.loop-i-test.true c.loop-i.invariant.0 c.loop-i.invariant.3 in
+    let fits = laws.round_room _ _ _ _ _ c.loop-at.at c.loop-at.top c.requires.1 c.loop-at-test.true c.loop-at.auto.at c.loop-at.invariant.2 in
     let kept = c.put_types.auto.words in
-    (omega arith, λ h. omega arith, omega (arith, kept, fits.0, fits.1, fits.2, c.requires.2, c.loop-i.invariant.2, c.wider-shape.ensures.value))
+    (omega arith, λ h. omega arith, omega (arith, kept, fits.0, fits.1, fits.2, c.requires.2, c.loop-at.invariant.1, c.from-shape.ensures))
 
-pub loop-i-smaller : goal.loop-i-smaller
-loop-i-smaller c = omega (arith, c.loop-i-test.true)
-
-pub loop-i-preserved : goal.loop-i-preserved
-loop-i-preserved c =
+pub loop-at-preserved : goal.loop-at-preserved
+loop-at-preserved c =
     let d = c.args.document.now in
     let nodes = index_of c.args.names.now c.args.sizes.now c.args.shapes.now c.args.nodes in
     let known = c.requires.1 in
-    let i = c.loop-i.i in
-    let top = c.loop-i.top in
-    let words = c.loop-i.words in
-    let some = c.loop-i-test.true in
+    let i = c.loop-at.at in
+    let top = c.loop-at.top in
+    let words = c.loop-at.words in
+    let some = c.loop-at-test.true in
     let before : i - 1 + 1 ≡ i = omega arith in
-    let enough = laws.round_enough d nodes known i (i - 1) before c.loop-i.invariant.0 in
-    let fits = laws.round_room _ _ _ _ _ i top known some c.loop-i.invariant.0 c.loop-i.invariant.3 in
-    let count = laws.round_count d nodes known i (i - 1) before c.loop-i.invariant.0 in
+    let enough = laws.round_enough d nodes known i (i - 1) before c.loop-at.auto.at in
+    let fits = laws.round_room _ _ _ _ _ i top known some c.loop-at.auto.at c.loop-at.invariant.2 in
+    let count = laws.round_count d nodes known i (i - 1) before c.loop-at.auto.at in
     let spot : top - 4 + 4 ≡ top = omega (arith, fits.0) in
-    let from = c.wider-from.result in
-    let size = c.wider.result in
+    let from = c.from-from.result in
+    let size = c.from.result in
     let head = (node_at d c.args.names.now c.args.sizes.now c.args.shapes.now (i - 1)).head in
     let name : part d from (from + size) ≡ head.name
-    = part_of d from size ∙ ap₂ (λ (f z : ℕ). take z (drop f d)) c.wider-from.ensures.value c.wider.ensures.value in
-    let shape = c.wider-shape.ensures.value in
+    = part_of d from size ∙ ap₂ (λ (f z : ℕ). take z (drop f d)) c.from-from.ensures c.from.ensures in
+    let shape = c.from-shape.ensures in
     let children = ap (λ (n : ℕ). n % 256) shape in (
-      omega arith,
-      c.put_types.auto.marks ∙ c.loop-i.invariant.1,
-      c.bring.auto.words ∙ c.put_types.auto.words ∙ c.loop-i.invariant.2,
-      omega (arith, c.loop-i.invariant.3, count, enough, fits.0, children),
+      c.put_types.auto.marks ∙ c.loop-at.invariant.0,
+      c.bring.auto.words ∙ c.put_types.auto.words ∙ c.loop-at.invariant.1,
+      omega (arith, c.loop-at.invariant.2, count, enough, fits.0, children),
       λ g x.
-          laws.round_stacked d nodes known i (i - 1) before c.loop-i.invariant.0 g words c.put_types.new.words c.bring.new.words top
+          laws.round_stacked d nodes known i (i - 1) before c.loop-at.auto.at g words c.put_types.new.words c.bring.new.words top
           (top - 4)
-          (top - 4 + 4 * (c.wider-shape.result % 256))
-          (c.loop-i.invariant.4 g x)
+          (top - 4 + 4 * (c.from-shape.result % 256))
+          (c.loop-at.invariant.3 g x)
           spot
           (ap (λ (n : ℕ). top - 4 + 4 * n) children)
           (c.put_types.ensures.types g x head (c.label_of-label.ensures g x.indexes ∙ ap (λ (n : Name). place same_name n g.labels) name)
@@ -147,22 +90,19 @@ loop-i-preserved c =
           c.bring.ensures,
     )
 
-pub shape_of-words : goal.shape_of-words
-shape_of-words c = c.loop-i.invariant.2
-
 pub returns : goal.returns
 returns c =
     let d = c.args.document.now in
     let nodes = index_of c.args.names.now c.args.sizes.now c.args.shapes.now c.args.nodes in
-    let last : c.loop-i.i ≡ 0 = omega arith in
+    let last : c.loop-at.at ≡ 0 = omega arith in
     let one = c.requires.1.one_tree in
-    let whole = subst (λ (n : ℕ). c.loop-i.top + 4 * tree_count (drop n (nodes_in d nodes)) ≡ 4 * c.args.nodes) last c.loop-i.invariant.3 in
+    let whole = subst (λ (n : ℕ). c.loop-at.top + 4 * tree_count (drop n (nodes_in d nodes)) ≡ 4 * c.args.nodes) last c.loop-at.invariant.2 in
     record {
-      inside = omega (arith, whole, one, c.loop-i.invariant.2);
+      inside = omega (arith, whole, one, c.loop-at.invariant.1);
       types =
           λ g x t e.
-          laws.stack_root g (nodes_in d nodes) c.loop-i.words c.loop-i.top one
-          (subst (λ (n : ℕ). laws.Stacked g (drop n (nodes_in d nodes)) c.loop-i.words c.loop-i.top) last (c.loop-i.invariant.4 g x))
+          laws.stack_root g (nodes_in d nodes) c.loop-at.words c.loop-at.top one
+          (subst (λ (n : ℕ). laws.Stacked g (drop n (nodes_in d nodes)) c.loop-at.words c.loop-at.top) last (c.loop-at.invariant.3 g x))
           t
           e;
     }

@@ -1,5 +1,5 @@
 -- `root_types` meets its contract: from the top on, set by set, stand the types of the trees of the nodes gone through.
-use Prim.Native.Nat.{◌+◌, ◌*◌, ◌≤◌}
+use Prim.Native.Nat.{◌+◌, ◌*◌}
 use mathlib.Core.Path.{◌≡◌}
 use lib.ListN.{length, drop}
 use Rattle.grammar.specs.Limits.{large}
@@ -11,14 +11,10 @@ use Rattle.node_types.specs.KnownDocument.{index_of}
 use Rattle.node_types.proofs.StackLaws as laws
 use Rattle.node_types.proofs.membership.root_types.Given as goal
 
-abbrev pub invariant-loop-i : goal.invariant-loop-i
-invariant-loop-i l =
-    (l.i ≤ l.nodes)
-    × (length l.marks ≡ 1024)
+abbrev pub invariant-loop-at : goal.invariant-loop-at
+invariant-loop-at l =
+    (length l.marks ≡ 1024)
     × (length l.words ≡ length l.initial.words)
-    × (l.top + 4 * tree_count (drop l.i (nodes_in l.document (index_of l.names l.sizes l.shapes l.nodes))) ≡ 4 * l.nodes)
+    × (l.top + 4 * tree_count (drop l.at (nodes_in l.document (index_of l.names l.sizes l.shapes l.nodes))) ≡ 4 * l.nodes)
     × ((g : Table) → Held large l.table l.index g
-    → laws.Stacked g (drop l.i (nodes_in l.document (index_of l.names l.sizes l.shapes l.nodes))) l.words l.top)
-
-abbrev pub decreases-loop-i : goal.decreases-loop-i
-decreases-loop-i l = l.i
+    → laws.Stacked g (drop l.at (nodes_in l.document (index_of l.names l.sizes l.shapes l.nodes))) l.words l.top)

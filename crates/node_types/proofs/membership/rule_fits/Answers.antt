@@ -1,4 +1,3 @@
--- `rule_fits` meets its contract: a rule that does not take the node's text does not fit, and of any other its content decides.
 use Prim.Native.Nat.{ℕ, ◌+◌}
 use native.Mathlib.Omega.{arith}
 use mathlib.Core.List.{List, []}
@@ -8,35 +7,11 @@ use Rattle.walks.specs.WalkAt.{run_at}
 use Rattle.node_types.proofs.TypeLaws as laws
 use Rattle.node_types.proofs.membership.rule_fits.Goals as goal
 
-pub takes_text-requires : goal.takes_text-requires
-takes_text-requires c = (record { table = c.requires.0.table; indexes = c.requires.0.held.indexes }, c.requires.1)
-
 pub returns-then-not-takes_text : goal.returns-then-not-takes_text
 returns-then-not-takes_text c =
     λ g x r listed h e named.
     laws.fits_not x c.args.rule c.requires.1 r listed h (tests_at c.args.words.now (c.args.node.at + 4) c.args.node.children)
     (sym (c.takes_text.ensures g r x.indexes listed h e) ∙ c.if-not-takes_text.true)
-
-pub overflow_add-top : goal.overflow_add-top
-overflow_add-top c = omega arith
-
-pub content_from-from-requires : goal.content_from-from-requires
-content_from-from-requires c = omega (arith, c.requires.0.held.indexes.few_rules, c.requires.1)
-
-pub content_to-to-requires : goal.content_to-to-requires
-content_to-to-requires c = omega (arith, c.requires.0.held.indexes.few_rules, c.requires.1)
-
-pub slice_bounds-content_fits-count : goal.slice_bounds-content_fits-count
-slice_bounds-content_fits-count c =
-    (laws.content_inside c.requires.0.held c.args.rule c.requires.1 c.content_from-from.ensures c.content_to-to.ensures).order
-
-pub slice_bounds-content_fits-start : goal.slice_bounds-content_fits-start
-slice_bounds-content_fits-start c =
-    (laws.content_inside c.requires.0.held c.args.rule c.requires.1 c.content_from-from.ensures c.content_to-to.ensures).order
-
-pub slice_bounds-content_fits-end : goal.slice_bounds-content_fits-end
-slice_bounds-content_fits-end c =
-    (laws.content_inside c.requires.0.held c.args.rule c.requires.1 c.content_from-from.ensures c.content_to-to.ensures).within
 
 pub content_fits-requires : goal.content_fits-requires
 content_fits-requires c = (
@@ -45,9 +20,6 @@ content_fits-requires c = (
   omega arith,
   c.requires.2 ∙ ap (λ (l : List ℕ). run_at l []) (sym (laws.content_there c.requires.0.held c.args.rule c.requires.1 c.content_from-from.ensures c.content_to-to.ensures)),
 )
-
-pub shape_of-marks : goal.shape_of-marks
-shape_of-marks c = c.content_fits.auto.marks
 
 pub returns : goal.returns
 returns c =

@@ -1,13 +1,10 @@
--- `takes_text` meets its contract.
-use mathlib.Core.Path.{◌∙◌}
+use mathlib.Core.Bool.{not}
+use mathlib.Core.Path.{◌∙◌, ap}
 use Rattle.node_types.proofs.TypeLaws as laws
 use Rattle.node_types.proofs.membership.takes_text.Goals as goal
 
-pub for_text-requires : goal.for_text-requires
-for_text-requires c = c.requires
+pub returns-then-not-text : goal.returns-then-not-text
+returns-then-not-text c = λ g q x listed h e. ap not c.if-not-text.true ∙ laws.takes_plain q h (e ∙ c.if-not-text.true)
 
-pub returns-then-text : goal.returns-then-text
-returns-then-text c = λ g q x listed h e. c.for_text.ensures g q x listed ∙ laws.takes_marked q h (e ∙ c.if-text.true)
-
-pub returns : goal.returns
-returns c = λ g q x listed h e. laws.takes_plain q h (e ∙ c.if-text.false)
+pub returns-else-not-text : goal.returns-else-not-text
+returns-else-not-text c = λ g q x listed h e. c.for_text.ensures g q x listed ∙ laws.takes_marked q h (e ∙ c.if-not-text.false)

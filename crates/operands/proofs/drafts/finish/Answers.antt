@@ -8,7 +8,7 @@ pub returns-then-count-eq0 : goal.returns-then-count-eq0
 returns-then-count-eq0 c = λ q. finish_none _ _ _ _ q.list q.row c.if-count-eq0.true
 
 pub returns-then-count-eq1 : goal.returns-then-count-eq1
-returns-then-count-eq1 c = λ q. finish_one _ _ _ _ q.list q.row _ c.if-count-eq1.true c.move_down.ensures
+returns-then-count-eq1 c = λ q. finish_one _ _ _ _ q.list q.row _ c.if-count-eq1.true c.copy_within.ensures.after
 
 pub bounds-draft-start-3 : goal.bounds-draft-start-3
 bounds-draft-start-3 c = simp length-set (omega arith)

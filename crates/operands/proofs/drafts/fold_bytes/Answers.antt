@@ -7,20 +7,14 @@ use Rattle.operands.specs.Notes.{folded}
 use Rattle.operands.proofs.NoteLaws.{fold_next, fold_done}
 use Rattle.operands.proofs.drafts.fold_bytes.Goals as goal
 
-pub overflow_add-print : goal.overflow_add-print
-overflow_add-print c = omega arith
-
-pub loop-i-preserved : goal.loop-i-preserved
-loop-i-preserved c =
-    let h = c.loop-i.print in
-    let i = c.loop-i.i in
-    let d = c.args.draft.now in (
+pub loop-byte-preserved : goal.loop-byte-preserved
+loop-byte-preserved c =
+    let bytes = take (c.args.to - c.args.from) (drop c.args.from c.args.draft.now) in
+    let i = c.loop-byte.byte-index in
+    let h = c.loop-byte.print in (
       omega arith,
-      omega arith,
-      ap (λ (b : ℕ). folded ((h * 31 + b) % 65536) (take (c.args.to - (i + 1)) (drop (i + 1) d))) c.wide.ensures.value
-          ∙ fold_next d i c.args.to h (omega arith) (omega arith)
-          ∙ c.loop-i.invariant.2,
+      ap (λ (b : ℕ). folded ((h * 31 + b) % 65536) (drop (i + 1) bytes)) c.from.ensures ∙ fold_next bytes i h c.loop-byte-test.true ∙ c.loop-byte.invariant.1,
     )
 
 pub returns : goal.returns
-returns c = sym (fold_done c.args.draft.now c.loop-i.i c.args.to c.loop-i.print (omega arith)) ∙ c.loop-i.invariant.2
+returns c = sym (fold_done _ _ _ c.loop-byte-test.false) ∙ c.loop-byte.invariant.1

@@ -4,7 +4,7 @@ use Prim.Native.Nat.{ℕ, ◌-◌, ◌<◌}
 use native.Mathlib.Omega.{arith}
 use mathlib.Core.List.{List}
 use mathlib.Core.Path.{◌≡◌, sym, ◌∙◌, ap}
-use lib.ListN.{take, drop}
+use lib.ListN.{take, drop, length-take}
 use Rattle.grammar.specs.ReadContent.{content_bytes}
 use Rattle.reader.proofs.ExprLaws.{expr_bytes, expr_forward}
 use Rattle.operands.specs.declared.drafts.OperandRow.{OperandRow}
@@ -25,19 +25,13 @@ asked : {d : List ℕ} {row : OperandRow} {fresh print : ℕ} (q : Newest d row 
     → print ≡ fingerprint (take (fresh - row.end) (drop row.end d)) → print ≡ fingerprint (content_bytes q.newest)
 asked {d} {row} {fresh} q p = p ∙ ap fingerprint (expr_bytes d row.end q.newest fresh q.stands)
 
-pub loop-k-init : goal.loop-k-init
-loop-k-init c = (omega arith, λ q m. among_all q.kept.row m)
-
-pub offset_bounds-notes-k : goal.offset_bounds-notes-k
-offset_bounds-notes-k c = omega arith
-
-pub bounds-notes-k : goal.bounds-notes-k
-bounds-notes-k c = omega arith
+pub loop-note-init : goal.loop-note-init
+loop-note-init c = λ q m. among_all q.kept.row m
 
 pub is_same-requires : goal.is_same-requires
 is_same-requires c =
     let q = c.requires.0.0 in
-    let f = first q c.loop-k-test.true (c.loop-k.invariant.1 q c.requires.0.1) in
+    let f = first q (omega (arith, length-take c.args.row.count c.args.notes.now)) (c.loop-note.invariant q c.requires.0.1) in
     let i = f.inside in
     let at = note_before _ f.before _ f.note_is (omega arith) in
     let e = expr_forward _ _ q.newest _ q.stands in
@@ -46,19 +40,21 @@ is_same-requires c =
 pub returns-then-is_same : goal.returns-then-is_same
 returns-then-is_same c =
     λ q m.
-    let f = first q c.loop-k-test.true (c.loop-k.invariant.1 q m) in
+    let f = first q (omega (arith, length-take c.args.row.count c.args.notes.now)) (c.loop-note.invariant q m) in
     f.here
     (sym (same_noted _ _ _ _ _ _ _ _ q.newest _ _ q.stands (asked q c.requires.2) c.requires.1 f c.is_same.ensures) ∙ c.if-is_same.true)
 
-pub loop-k-preserved : goal.loop-k-preserved
-loop-k-preserved c = (
-  omega arith,
-  λ q m.
-      let f = first q c.loop-k-test.true (c.loop-k.invariant.1 q m) in
-      f.later
-      (sym (same_noted _ _ _ _ _ _ _ _ q.newest _ _ q.stands (asked q c.requires.2) c.requires.1 f c.is_same.ensures) ∙ c.if-is_same.false) _
-      (omega arith),
-)
+pub loop-note-preserved : goal.loop-note-preserved
+loop-note-preserved c =
+    λ q m.
+    let f = first q (omega (arith, length-take c.args.row.count c.args.notes.now)) (c.loop-note.invariant q m) in
+    f.later
+    (sym (same_noted _ _ _ _ _ _ _ _ q.newest _ _ q.stands (asked q c.requires.2) c.requires.1 f c.is_same.ensures) ∙ c.if-is_same.false) _
+    (omega arith)
 
 pub returns : goal.returns
-returns c = λ q m. among_none (omega arith) (c.loop-k.invariant.1 q m)
+returns c =
+    λ q m.
+    let few = q.kept.row.few in
+    let room = m.room in
+    among_none (omega (arith, length-take c.args.row.count c.args.notes.now)) (c.loop-note.invariant q m)

@@ -11,13 +11,7 @@ use Rattle.pages.proofs.lines.put_rows.Goals as goal
 
 pub loop-i-init : goal.loop-i-init
 unfolding joined_of numbers_below
-loop-i-init c = (omega arith, refl, omega arith, λ t w. put_none c.args.out.now c.args.at (omega arith))
-
-pub put_row-end-requires : goal.put_row-end-requires
-put_row-end-requires c = (c.requires.0, omega arith, omega arith)
-
-pub overflow_add-i : goal.overflow_add-i
-overflow_add-i c = omega arith
+loop-i-init c = (refl, omega arith, λ t w. put_none c.args.out.now c.args.at (omega arith))
 
 pub loop-i-preserved : goal.loop-i-preserved
 loop-i-preserved c =
@@ -25,15 +19,11 @@ loop-i-preserved c =
     let size = row_long c.requires.0.texts_are c.loop-i.i in (
       omega arith,
       omega arith,
-      omega arith,
-      λ t w. rows_next t c.loop-i.i (c.loop-i.invariant.3 t w) (c.put_row-end.ensures t w),
+      λ t w. rows_next t c.loop-i.i (c.loop-i.invariant.2 t w) (c.put_row-end.ensures t w),
     )
-
-pub shape_of-out : goal.shape_of-out
-shape_of-out c = c.loop-i.invariant.1
 
 pub returns : goal.returns
 returns c =
     let e : c.loop-i.i ≡ c.args.rows = omega arith in
     λ t w.
-    subst (λ (n : ℕ). Put c.args.out.now c.args.at (joined_of (row_of page_layout t) (numbers_below n)) c.loop-i.out c.loop-i.end) e (c.loop-i.invariant.3 t w)
+    subst (λ (n : ℕ). Put c.args.out.now c.args.at (joined_of (row_of page_layout t) (numbers_below n)) c.loop-i.out c.loop-i.end) e (c.loop-i.invariant.2 t w)

@@ -1,5 +1,5 @@
 -- `put_rows` meets its contract. The loop's invariant: the rows before `i` are written.
-use Prim.Native.Nat.{◌+◌, ◌-◌, ◌*◌, ◌≤◌}
+use Prim.Native.Nat.{◌+◌, ◌*◌}
 use mathlib.Core.Path.{◌≡◌}
 use lib.ListN.{length}
 use Rattle.grammar.specs.Lists.{joined_of, numbers_below}
@@ -10,10 +10,6 @@ use Rattle.pages.proofs.lines.put_rows.Given as goal
 
 abbrev pub invariant-loop-i : goal.invariant-loop-i
 invariant-loop-i l =
-    (l.i ≤ l.rows)
-    × (length l.out ≡ length l.initial.out)
+    (length l.out ≡ length l.initial.out)
     × (l.end ≡ l.at + 73 * l.i)
     × ((t : RuleTexts) → TextsStand l.texts l.places t → Put l.initial.out l.at (joined_of (row_of page_layout t) (numbers_below l.i)) l.out l.end)
-
-abbrev pub decreases-loop-i : goal.decreases-loop-i
-decreases-loop-i l = l.rows - l.i

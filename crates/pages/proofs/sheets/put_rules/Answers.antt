@@ -3,7 +3,6 @@ use Prim.Native.Nat.{◌+◌, ◌<◌}
 use native.Mathlib.Omega.{arith}
 use mathlib.Core.Path.{refl, ap}
 use lib.ListN.{length}
-use borrow.Author.Rules.{rules}
 use Rattle.grammar.specs.Lists.{joined_of}
 use Rattle.grammar.specs.Pages.{texts_of}
 use Rattle.union.specs.PairNumbers.{rule_numbered}
@@ -15,10 +14,7 @@ use Rattle.pages.proofs.sheets.put_rules.Goals as goal
 
 pub loop-i-init : goal.loop-i-init
 unfolding joined_of
-loop-i-init c = (omega arith, refl, refl, λ f. (refl, put_none c.args.out.now 0 (omega arith)))
-
-pub put_texts-places-requires : goal.put_texts-places-requires
-put_texts-places-requires c = (c.requires.0.held, omega arith, omega arith)
+loop-i-init c = (refl, refl, λ f. (refl, put_none c.args.out.now 0 (omega arith)))
 
 pub rows_of-requires : goal.rows_of-requires
 rows_of-requires c = places_inside (c.put_texts-places.ensures c.requires.0.held)
@@ -33,32 +29,22 @@ put_rows-end-requires c =
     let rules = f.held.indexes.rules in
     let more = rows_more f.table c.loop-i.i (omega arith) in
     let within = rows_within f.table (c.loop-i.i + 1) in
-    let at = (c.loop-i.invariant.3 f).0 in
+    let at = (c.loop-i.invariant.2 f).0 in
     (record { texts_are = t; stand = w }, few, omega arith)
-
-pub overflow_add-i : goal.overflow_add-i
-overflow_add-i c = omega arith
 
 pub loop-i-preserved : goal.loop-i-preserved
 loop-i-preserved c = (
   omega arith,
   omega arith,
-  omega arith,
   λ f.
       let rules = f.held.indexes.rules in
       let below : c.loop-i.i < length f.table.rules = omega arith in
-      rows_end f.table c.loop-i.i below (c.rows_of.ensures.by_index _ (texts_of f.table (rule_numbered f.table c.loop-i.i)) (c.put_texts-places.ensures f)) (c.loop-i.invariant.3 f).0 (c.loop-i.invariant.3 f).1
+      rows_end f.table c.loop-i.i below (c.rows_of.ensures.by_index _ (texts_of f.table (rule_numbered f.table c.loop-i.i)) (c.put_texts-places.ensures f)) (c.loop-i.invariant.2 f).0 (c.loop-i.invariant.2 f).1
       (c.put_rows-end.ensures (texts_of f.table (rule_numbered f.table c.loop-i.i)) (c.put_texts-places.ensures f)),
 )
-
-pub shape_of-texts : goal.shape_of-texts
-shape_of-texts c = c.loop-i.invariant.1
-
-pub shape_of-out : goal.shape_of-out
-shape_of-out c = c.loop-i.invariant.2
 
 pub returns : goal.returns
 returns c =
     λ f.
     let rules = f.held.indexes.rules in
-    put_as (ap (joined_of (λ row. row)) (rows_all f.table c.loop-i.i (omega arith))) (c.loop-i.invariant.3 f).1
+    put_as (ap (joined_of (λ row. row)) (rows_all f.table c.loop-i.i (omega arith))) (c.loop-i.invariant.2 f).1

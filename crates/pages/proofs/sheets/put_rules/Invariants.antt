@@ -1,5 +1,5 @@
 -- `put_rules` meets its contract. The loop's invariant: the rows of the rules before `i` are written.
-use Prim.Native.Nat.{◌-◌, ◌*◌, ◌≤◌}
+use Prim.Native.Nat.{◌*◌}
 use mathlib.Core.Path.{◌≡◌}
 use lib.ListN.{length}
 use Rattle.grammar.specs.Lists.{joined_of}
@@ -11,11 +11,7 @@ use Rattle.pages.proofs.sheets.put_rules.Given as goal
 
 abbrev pub invariant-loop-i : goal.invariant-loop-i
 invariant-loop-i l =
-    (l.i ≤ l.rules)
-    × (length l.texts ≡ length l.initial.texts)
+    (length l.texts ≡ length l.initial.texts)
     × (length l.out ≡ length l.initial.out)
     × ((f : SomeHeld large l.table l.index)
     → (l.end ≡ 73 * length (rows_before f.table l.i)) × Put l.initial.out 0 (joined_of (λ row. row) (rows_before f.table l.i)) l.out l.end)
-
-abbrev pub decreases-loop-i : goal.decreases-loop-i
-decreases-loop-i l = l.rules - l.i

@@ -1,5 +1,5 @@
--- `find` meets its contract. The loop's invariant: the place is so far on, and then the place among the rest.
-use Prim.Native.Nat.{◌+◌, ◌-◌, ◌≤◌}
+-- The place is so far on, and then the place among the rest.
+use Prim.Native.Nat.{◌+◌}
 use mathlib.Core.Path.{◌≡◌}
 use lib.ListN.{take, drop}
 use Rattle.grammar.specs.Lists.{place}
@@ -8,8 +8,5 @@ use Rattle.paths.proofs.numbering.find.Given as goal
 
 abbrev pub invariant-loop-t : goal.invariant-loop-t
 invariant-loop-t l =
-    (l.t ≤ l.count)
-    × (place (same_key l.s l.names l.sizes l.keys) l.i (take l.count l.firsts) ≡ l.t + place (same_key l.s l.names l.sizes l.keys) l.i (drop l.t (take l.count l.firsts)))
-
-abbrev pub decreases-loop-t : goal.decreases-loop-t
-decreases-loop-t l = l.count - l.t
+    let listed = take l.count l.firsts in
+    place (same_key l.s l.names l.sizes l.keys) l.i listed ≡ l.t + place (same_key l.s l.names l.sizes l.keys) l.i (drop l.t listed)

@@ -1,5 +1,4 @@
 -- `parents_of` meets its contract. The loop's invariant is `Passing`.
-use Prim.Native.Nat.{◌-◌, ◌≤◌}
 use mathlib.Core.Path.{◌≡◌}
 use lib.ListN.{length}
 use Rattle.paths.specs.SampleNodes.{CountedTree}
@@ -8,10 +7,4 @@ use Rattle.paths.proofs.parents.parents_of.Given as goal
 
 abbrev pub invariant-loop-i : goal.invariant-loop-i
 invariant-loop-i l =
-    (length l.parents ≡ 2048)
-    × (length l.pending ≡ 2048)
-    × (l.i ≤ l.nodes)
-    × ((q : CountedTree l.shapes l.nodes) → Passing q.list l.parents l.pending l.top l.i)
-
-abbrev pub decreases-loop-i : goal.decreases-loop-i
-decreases-loop-i l = l.nodes - l.i
+    (length l.parents ≡ 2048) × (length l.pending ≡ 2048) × ((q : CountedTree l.shapes l.nodes) → Passing q.list l.parents l.pending l.top l.i)

@@ -8,78 +8,54 @@ use Rattle.paths.proofs.TypeLaws.{typing_start, above_room, above_small, find_ro
 use Rattle.paths.proofs.paths.types_of.Goals as goal
 
 pub loop-i-init : goal.loop-i-init
-loop-i-init c = (refl, refl, refl, omega arith, λ q. typing_start q.list q.tree _ _ _)
-
-pub offset_bounds-parents-i : goal.offset_bounds-parents-i
-offset_bounds-parents-i c = omega arith
-
-pub bounds-parents-i : goal.bounds-parents-i
-bounds-parents-i c = omega arith
+loop-i-init c = (refl, λ q. typing_start q.list q.tree _ _ _)
 
 pub above_type-requires : goal.above_type-requires
-above_type-requires c = above_room c.requires (c.loop-i.invariant.4 c.requires) c.loop-i-test.true c.loop-i.invariant.0
+above_type-requires c = above_room c.requires (c.loop-i.invariant.1 c.requires) c.loop-i-test.true (omega arith)
 
 pub overflow_cast-aboves : goal.overflow_cast-aboves
 overflow_cast-aboves c =
     let whole = c.requires in
-    let small = above_small whole (c.loop-i.invariant.4 whole) c.loop-i-test.true in
+    let small = above_small whole (c.loop-i.invariant.1 whole) c.loop-i-test.true in
     omega (arith, c.above_type.ensures)
-
-pub offset_bounds-aboves-i : goal.offset_bounds-aboves-i
-offset_bounds-aboves-i c = omega arith
-
-pub bounds-aboves-i : goal.bounds-aboves-i
-bounds-aboves-i c = omega arith
 
 pub find-t-requires : goal.find-t-requires
 find-t-requires c =
-    find_room c.requires (c.loop-i.invariant.4 c.requires) c.loop-i-test.true c.above_type.result c.above_type.ensures c.loop-i.invariant.1
-    c.loop-i.invariant.2
+    find_room c.requires (c.loop-i.invariant.1 c.requires) c.loop-i-test.true c.above_type.result c.above_type.ensures (omega arith)
+    (omega arith)
 
 pub overflow_cast-of : goal.overflow_cast-of
 overflow_cast-of c =
     let whole = c.requires in
     let h = whole.few in
-    let f = (c.loop-i.invariant.4 whole).typed.few in
+    let f = (c.loop-i.invariant.1 whole).typed.few in
     omega (arith, c.find-t.ensures.few)
-
-pub offset_bounds-of-i : goal.offset_bounds-of-i
-offset_bounds-of-i c = omega arith
-
-pub bounds-of-i : goal.bounds-of-i
-bounds-of-i c = omega arith
-
-pub overflow_cast-firsts : goal.overflow_cast-firsts
-overflow_cast-firsts c = omega arith
 
 pub offset_bounds-firsts-count : goal.offset_bounds-firsts-count
 offset_bounds-firsts-count c =
-    let f = (c.loop-i.invariant.4 c.requires).typed.few in
+    let f = (c.loop-i.invariant.1 c.requires).typed.few in
     omega arith
 
 pub bounds-firsts-count : goal.bounds-firsts-count
 bounds-firsts-count c =
-    let f = (c.loop-i.invariant.4 c.requires).typed.few in
+    let f = (c.loop-i.invariant.1 c.requires).typed.few in
     omega arith
 
 pub next_count-count-requires : goal.next_count-count-requires
 next_count-count-requires c =
-    let f = (c.loop-i.invariant.4 c.requires).typed.few in
+    let f = (c.loop-i.invariant.1 c.requires).typed.few in
     omega arith
 
 pub loop-i-preserved : goal.loop-i-preserved
 loop-i-preserved c = (
-  length-set c.loop-i.of c.loop-i.i _ ∙ c.loop-i.invariant.0,
-  length-set c.loop-i.aboves c.loop-i.i _ ∙ c.loop-i.invariant.1,
-  length-set c.loop-i.firsts c.loop-i.count _ ∙ c.loop-i.invariant.2,
-  omega arith,
+  length-set c.loop-i.aboves c.loop-i.i _ ∙ c.loop-i.invariant.0,
   λ q.
-      typing_next q (c.loop-i.invariant.4 q) c.loop-i-test.true c.above_type.result c.above_type.ensures c.loop-i.invariant.1 c.loop-i.invariant.2 c.find-t.result
-      c.find-t.ensures.found c.loop-i.invariant.0 c.next_count-count.result c.next_count-count.ensures,
+      typing_next q (c.loop-i.invariant.1 q) c.loop-i-test.true c.above_type.result c.above_type.ensures (omega arith) (omega arith) c.find-t.result
+      c.find-t.ensures.found (omega arith) c.next_count-count.result c.next_count-count.ensures,
 )
 
 pub returns : goal.returns
 returns c =
     λ q.
     let z : c.loop-i.i ≡ c.args.nodes = omega arith in
-    subst (λ (i : ℕ). TypedTo q.list q.tree c.loop-i.of c.loop-i.firsts c.loop-i.count i) z (c.loop-i.invariant.4 q).typed
+    subst (λ (i : ℕ). TypedTo q.list q.tree c.loop-i.of c.loop-i.firsts c.loop-i.count i) z (c.loop-i.invariant.1 q).typed

@@ -1,5 +1,4 @@
 -- `types_of` meets its contract. The loop's invariant is `Typing`.
-use Prim.Native.Nat.{◌-◌, ◌≤◌}
 use mathlib.Core.Path.{◌≡◌}
 use lib.ListN.{length}
 use Rattle.paths.specs.SampleNodes.{Whole}
@@ -8,11 +7,4 @@ use Rattle.paths.proofs.paths.types_of.Given as goal
 
 abbrev pub invariant-loop-i : goal.invariant-loop-i
 invariant-loop-i l =
-    (length l.of ≡ 2048)
-    × (length l.aboves ≡ 2048)
-    × (length l.firsts ≡ 2048)
-    × (l.i ≤ l.nodes)
-    × ((q : Whole l.s l.names l.sizes l.parents l.nodes) → Typing q.list q.tree l.of l.aboves l.firsts l.count l.i)
-
-abbrev pub decreases-loop-i : goal.decreases-loop-i
-decreases-loop-i l = l.nodes - l.i
+    (length l.aboves ≡ 2048) × ((q : Whole l.s l.names l.sizes l.parents l.nodes) → Typing q.list q.tree l.of l.aboves l.firsts l.count l.i)

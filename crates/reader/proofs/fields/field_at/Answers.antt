@@ -14,22 +14,16 @@ returns-then-size-at c = sym (at_end c.args.s.now c.args.at (omega arith))
 pub returns-then-size-at-lt3 : goal.returns-then-size-at-lt3
 returns-then-size-at-lt3 c = sym (at_past c.args.s.now c.args.at (omega arith) (omega arith))
 
-pub wide-high-requires : goal.wide-high-requires
-wide-high-requires c = tt
-
-pub wide-low-requires : goal.wide-low-requires
-wide-low-requires c = tt
-
 pub returns-then-size-from : goal.returns-then-size-from
 returns-then-size-from c =
     let s = c.args.s.now in
     let at = c.args.at in
-    let n : c.wide-high.result * 256 + c.wide-low.result ≡ size_at s at = omega (arith, c.wide-high.ensures.value, c.wide-low.ensures.value) in
+    let n : c.from-high.result * 256 + c.from-low.result ≡ size_at s at = omega (arith, c.from-high.ensures, c.from-low.ensures) in
     sym (at_past s at (omega arith) (omega arith))
 
 pub returns : goal.returns
 returns c =
     let s = c.args.s.now in
     let at = c.args.at in
-    let n : c.wide-high.result * 256 + c.wide-low.result ≡ size_at s at = omega (arith, c.wide-high.ensures.value, c.wide-low.ensures.value) in
+    let n : c.from-high.result * 256 + c.from-low.result ≡ size_at s at = omega (arith, c.from-high.ensures, c.from-low.ensures) in
     ap (λ (k : ℕ). Found (get_or s at 0) (at + 3) (at + 3 + k)) n ∙ sym (at_found s at (omega arith))

@@ -9,13 +9,7 @@ use Rattle.reader.proofs.label_places.name_begins.Goals as goal
 
 pub loop-i-init : goal.loop-i-init
 unfolding summed
-loop-i-init c = (refl, omega arith, omega arith)
-
-pub label_to-requires : goal.label_to-requires
-label_to-requires c = omega (arith, c.requires.some_held.held.indexes.few_labels)
-
-pub label_from-requires : goal.label_from-requires
-label_from-requires c = omega (arith, c.requires.some_held.held.indexes.few_labels)
+loop-i-init c = (refl, omega arith)
 
 pub overflow_sub-begins : goal.overflow_sub-begins
 overflow_sub-begins c =
@@ -38,9 +32,9 @@ loop-i-preserved c =
           ∙ ap (λ (n : ℕ). n + (3 + (label_to index i - label_from index i))) c.loop-i.invariant.0
           ∙ sym (summed_next index i),
       omega (arith, short.1, c.label_to.ensures, c.label_from.ensures),
-      omega arith,
     )
 
-pub returns : goal.returns
-returns c =
-    let last : c.loop-i.i ≡ c.args.label = omega arith in record { value = (λ f. c.loop-i.invariant.0 ∙ begins_at f c.loop-i.i (omega arith) ∙ ap (λ (n : ℕ). name_begins f.table.labels n) last); upper_bound = omega (arith, c.requires.some_held.held.indexes.few_labels) }
+pub returns-clause-value : goal.returns-clause-value
+returns-clause-value c =
+    λ f. let last : c.loop-i.i ≡ c.args.label = omega arith in
+    c.loop-i.invariant.0 ∙ begins_at f c.loop-i.i (omega arith) ∙ ap (name_begins f.table.labels) last

@@ -26,9 +26,6 @@ pub returns-then-to-from-gt-NAME : goal.returns-then-to-from-gt-NAME
 returns-then-to-from-gt-NAME c =
     let s = c.args.s.now in let from = c.args.from in let to = c.args.to in let limits = c.args.limits in let classes = c.args.classes.now in λ g x. sym (unreadable _ BadField (label_unfit (limits_of limits) classes g (part s from to) (λ f. omega (arith, label_fitted limits x c.requires.value_at.inside f, c.if-to-from-gt-NAME.true))))
 
-pub is_name-requires : goal.is_name-requires
-is_name-requires c = c.requires.in_bounds
-
 pub returns-then-repeated_label : goal.returns-then-repeated_label
 returns-then-repeated_label c =
     let s = c.args.s.now in let from = c.args.from in let to = c.args.to in let limits = c.args.limits in let classes = c.args.classes.now in λ g x. sym (unreadable _ Repeated (label_repeated (limits_of limits) classes g (part s from to) (label_fits limits x c.requires.value_at.inside (sym c.start_count.ensures ∙ c.if-start_count-ne0.false) (sym c.rule_count.ensures ∙ c.if-rule_count-ne0.false) c.if-from-to.false c.if-to-from-gt-NAME.false) (sym c.is_name.ensures ∙ c.if-is_name.true) (sym (c.repeated_label.ensures g x) ∙ c.if-repeated_label.true)))

@@ -7,9 +7,6 @@ use lib.ListN.{get_or}
 use Rattle.reader.proofs.TableIndexLaws.{rule_at, text_at}
 use Rattle.reader.proofs.rules.for_text.Goals as goal
 
-pub content_from-from-requires : goal.content_from-from-requires
-content_from-from-requires c = omega (arith, c.requires.1)
-
 pub overflow_sub-result : goal.overflow_sub-result
 overflow_sub-result c =
     let x = c.requires.0.indexes in

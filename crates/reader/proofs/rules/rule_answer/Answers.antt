@@ -1,7 +1,7 @@
 -- `rules::rule_answer` meets its contract: each return is a case of the definition, in its order.
 use native.Mathlib.Omega.{arith}
-use mathlib.Core.Path.{sym, ◌∙◌}
-use Rattle.reader.proofs.IndexedFaults.{rule_small, rule_large, rule_one_too_many, rule_type_out, rule_label_out, rule_by_content, rule_reads}
+use mathlib.Core.Path.{sym}
+use Rattle.reader.proofs.IndexedFaults.{rule_small, rule_large, rule_one_too_many, rule_type_out, rule_label_out, rule_settled}
 use Rattle.reader.proofs.rules.rule_answer.Goals as goal
 
 pub returns-then-size-lt3 : goal.returns-then-size-lt3
@@ -16,16 +16,12 @@ returns-then-limits-rule_count c =
 
 pub returns-then-limits-ty : goal.returns-then-limits-ty
 returns-then-limits-ty c =
-    λ text g x. sym (rule_type_out c.args.limits x c.requires.inside text c.if-size-lt3.false c.if-size.false (omega (arith, c.rule_count.ensures, c.if-limits-rule_count.false)) (omega (arith, c.wide-ty.ensures.value, c.if-limits-ty.true)))
+    λ text g x. sym (rule_type_out c.args.limits x c.requires.inside text c.if-size-lt3.false c.if-size.false (omega (arith, c.rule_count.ensures, c.if-limits-rule_count.false)) (omega (arith, c.from-ty.ensures, c.if-limits-ty.true)))
 
 pub returns-then-label_count-label : goal.returns-then-label_count-label
 returns-then-label_count-label c =
-    λ text g x. sym (rule_label_out c.args.limits x c.requires.inside text c.if-size-lt3.false c.if-size.false (omega (arith, c.rule_count.ensures, c.if-limits-rule_count.false)) (omega (arith, c.wide-label.ensures.value, c.label_count.ensures, c.if-label_count-label.true)))
+    λ text g x. sym (rule_label_out c.args.limits x c.requires.inside text c.if-size-lt3.false c.if-size.false (omega (arith, c.rule_count.ensures, c.if-limits-rule_count.false)) (omega (arith, c.from-label.ensures, c.label_count.ensures, c.if-label_count-label.true)))
 
-pub returns-in-Fine : goal.returns-in-Fine
-returns-in-Fine c =
-    λ text g x. sym (rule_reads c.args.limits x c.requires.inside text c.if-size-lt3.false c.if-size.false (omega (arith, c.rule_count.ensures, c.if-limits-rule_count.false)) (omega (arith, c.wide-ty.ensures.value, c.if-limits-ty.false)) (omega (arith, c.wide-label.ensures.value, c.label_count.ensures, c.if-label_count-label.false)) (sym c.content_refusal.ensures ∙ c.in-Fine.is))
-
-pub returns-in-Refused : goal.returns-in-Refused
-returns-in-Refused c =
-    λ text g x. sym (rule_by_content c.args.limits x c.requires.inside text c.if-size-lt3.false c.if-size.false (omega (arith, c.rule_count.ensures, c.if-limits-rule_count.false)) (omega (arith, c.wide-ty.ensures.value, c.if-limits-ty.false)) (omega (arith, c.wide-label.ensures.value, c.label_count.ensures, c.if-label_count-label.false)) _ (sym c.content_refusal.ensures ∙ c.in-Refused.is))
+pub returns : goal.returns
+returns c =
+    λ text g x. sym (rule_settled c.args.limits x c.requires.inside text c.if-size-lt3.false c.if-size.false (omega (arith, c.rule_count.ensures, c.if-limits-rule_count.false)) (omega (arith, c.from-ty.ensures, c.if-limits-ty.false)) (omega (arith, c.from-label.ensures, c.label_count.ensures, c.if-label_count-label.false)) _ (sym (c.content_refusal.ensures c.args.limits.nodes c.args.limits.levels c.args.limits.words)))

@@ -15,16 +15,16 @@ returns-then-rule_count-ne0 c =
 
 pub returns-then-repeated_start : goal.returns-then-repeated_start
 returns-then-repeated_start c =
-    λ g x. sym (start_again c.args.limits x c.requires.inside c.if-to-from-ne1.false (sym c.rule_count.ensures ∙ c.if-rule_count-ne0.false) (ap (λ (k : ℕ). is_in k g.starts) (sym c.wide-ty.ensures.value) ∙ sym (c.repeated_start.ensures g x) ∙ c.if-repeated_start.true))
+    λ g x. sym (start_again c.args.limits x c.requires.inside c.if-to-from-ne1.false (sym c.rule_count.ensures ∙ c.if-rule_count-ne0.false) (ap (λ (k : ℕ). is_in k g.starts) (sym c.from-ty.ensures) ∙ sym (c.repeated_start.ensures g x) ∙ c.if-repeated_start.true))
 
 pub returns-then-limits-start_count : goal.returns-then-limits-start_count
 returns-then-limits-start_count c =
-    λ g x. sym (start_one_too_many c.args.limits x c.requires.inside c.if-to-from-ne1.false (sym c.rule_count.ensures ∙ c.if-rule_count-ne0.false) (ap (λ (k : ℕ). is_in k g.starts) (sym c.wide-ty.ensures.value) ∙ sym (c.repeated_start.ensures g x) ∙ c.if-repeated_start.false) (omega (arith, c.start_count.ensures, c.if-limits-start_count.true)))
+    λ g x. sym (start_one_too_many c.args.limits x c.requires.inside c.if-to-from-ne1.false (sym c.rule_count.ensures ∙ c.if-rule_count-ne0.false) (ap (λ (k : ℕ). is_in k g.starts) (sym c.from-ty.ensures) ∙ sym (c.repeated_start.ensures g x) ∙ c.if-repeated_start.false) (omega (arith, c.start_count.ensures, c.if-limits-start_count.true)))
 
 pub returns-then-limits-ty : goal.returns-then-limits-ty
 returns-then-limits-ty c =
-    λ g x. sym (start_out c.args.limits x c.requires.inside c.if-to-from-ne1.false (sym c.rule_count.ensures ∙ c.if-rule_count-ne0.false) (ap (λ (k : ℕ). is_in k g.starts) (sym c.wide-ty.ensures.value) ∙ sym (c.repeated_start.ensures g x) ∙ c.if-repeated_start.false) (omega (arith, c.start_count.ensures, c.if-limits-start_count.false)) (omega (arith, c.wide-ty.ensures.value, c.if-limits-ty.true)))
+    λ g x. sym (start_out c.args.limits x c.requires.inside c.if-to-from-ne1.false (sym c.rule_count.ensures ∙ c.if-rule_count-ne0.false) (ap (λ (k : ℕ). is_in k g.starts) (sym c.from-ty.ensures) ∙ sym (c.repeated_start.ensures g x) ∙ c.if-repeated_start.false) (omega (arith, c.start_count.ensures, c.if-limits-start_count.false)) (omega (arith, c.from-ty.ensures, c.if-limits-ty.true)))
 
 pub returns : goal.returns
 returns c =
-    λ g x. sym (start_reads c.args.limits x c.requires.inside c.if-to-from-ne1.false (sym c.rule_count.ensures ∙ c.if-rule_count-ne0.false) (ap (λ (k : ℕ). is_in k g.starts) (sym c.wide-ty.ensures.value) ∙ sym (c.repeated_start.ensures g x) ∙ c.if-repeated_start.false) (omega (arith, c.start_count.ensures, c.if-limits-start_count.false)) (omega (arith, c.wide-ty.ensures.value, c.if-limits-ty.false)))
+    λ g x. sym (start_reads c.args.limits x c.requires.inside c.if-to-from-ne1.false (sym c.rule_count.ensures ∙ c.if-rule_count-ne0.false) (ap (λ (k : ℕ). is_in k g.starts) (sym c.from-ty.ensures) ∙ sym (c.repeated_start.ensures g x) ∙ c.if-repeated_start.false) (omega (arith, c.start_count.ensures, c.if-limits-start_count.false)) (omega (arith, c.from-ty.ensures, c.if-limits-ty.false)))

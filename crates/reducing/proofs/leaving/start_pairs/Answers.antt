@@ -3,7 +3,6 @@ use Prim.Native.Nat.{ℕ}
 use native.Mathlib.Omega.{arith}
 use mathlib.Core.List.{List}
 use mathlib.Core.Path.{◌∙◌, ap}
-use lib.ListN.{length, length-replicate}
 use Rattle.grammar.specs.Lists.{is_in, joined_of, numbers_below}
 use Rattle.sets.specs.Sets.{member, in_either}
 use Rattle.reader.specs.TableIndex.{start_type, start_count}
@@ -13,20 +12,14 @@ use Rattle.union.specs.Walks.{list_of_type}
 use Rattle.reducing.proofs.LeavingLaws.{start_set}
 use Rattle.reducing.proofs.leaving.start_pairs.Goals as goal
 
-pub with_starts-first-requires : goal.with_starts-first-requires
-with_starts-first-requires c = (ap length c.empty-none.ensures ∙ length-replicate {A = ℕ} 8 0, c.requires.0.old, c.requires.1)
-
-pub store_eight-requires : goal.store_eight-requires
-store_eight-requires c = omega arith
-
 pub returns : goal.returns
 returns c =
     λ old add g h x y l.
     let index = c.args.index.now in
     let olds = joined_of (λ i. list_of_type c.args.lists.old.from c.args.lists.old.numbers (start_type index i)) (numbers_below (start_count index)) in
     let eight = c.with_starts.ensures.1 in
-    let none = ap (λ (w : List ℕ). member w 0) c.empty-none.ensures ∙ member_zeros 8 0 in
-    ap (λ (w : List ℕ). member w 0) (words_stored _ starts_at 8 _ _ (omega arith) eight c.store_eight.ensures)
+    let none = ap (λ (w : List ℕ). member w 0) c.empty.ensures ∙ member_zeros 8 0 in
+    ap (λ (w : List ℕ). member w 0) (words_stored _ starts_at 8 _ _ (omega arith) eight c.store.ensures)
     ∙ start_set x y l _ _ c.with_starts.ensures.0
     (c.with_starts-first.ensures.0
     ∙ ap (in_either (λ p. is_in p olds)) none)

@@ -5,18 +5,14 @@ use lib.ListN.{take, drop}
 use Rattle.grammar.specs.Lists.{is_in}
 use Rattle.sets.specs.Sets.{member, in_either}
 use Rattle.union.specs.Walks.{list_of_type}
-use Rattle.reducing.proofs.LeavingLaws.{list_part}
 use Rattle.reducing.proofs.leaving.with_list.Goals as goal
-
-pub with_part-requires : goal.with_part-requires
-with_part-requires c = (c.requires.0, list_part c.requires.1 _ _ _ c.requires.2 c.wider.ensures.value c.wider-2.ensures.value)
 
 pub returns : goal.returns
 unfolding list_of_type
 returns c = (
   c.with_part.ensures.0
       ∙ ap₂ (λ (a b : ℕ). in_either (λ p. is_in p (take (b - a) (drop a c.args.lists.numbers))) (member c.args.set.words 0))
-      c.wider.ensures.value
-      c.wider-2.ensures.value,
+      c.from.ensures
+      c.from-2.ensures,
   c.with_part.ensures.1,
 )

@@ -2,50 +2,47 @@
 use Prim.Native.Nat.{ℕ}
 use native.Mathlib.Omega.{arith}
 use mathlib.Core.List.{List}
-use mathlib.Core.Path.{◌≡◌, refl, ◌∙◌, ap}
+use mathlib.Core.Path.{◌≡◌, sym, ◌∙◌, ap}
 use lib.Dec.{eqb}
+use lib.ListN.{take}
+use borrow.Author.Tests.{eq-eqb, ne_eqb}
 use Rattle.grammar.specs.Lists.{joined_of, numbers_below}
 use Rattle.grammar.specs.Table.{Table}
 use Rattle.theory.specs.Alternatives.{only_if}
 use Rattle.union.specs.declared.united.United.{United}
 use Rattle.union.specs.View.{first_in}
-use Rattle.reducing.specs.PairsMet.{met_in_rule, met_in_pair}
-use Rattle.reducing.proofs.MeetingLaws.{meets_same, meets_start, meets_next, pair_met}
+use Rattle.reducing.specs.PairsMet.{met_in_rule, met_in_pair, Meets}
+use Rattle.reducing.proofs.MeetingLaws.{meets_same, meets_start, meets_next, meets_on, meets_off, pair_met}
 use Rattle.reducing.proofs.meeting.met_in_pair.Goals as goal
+use Rattle.reducing.proofs.meeting.met_in_pair.Goals.{then-from-p, else-from-p}
 
 abbrev of_rule : United → ℕ → Table → ℕ → List ℕ
 of_rule v p u i = only_if (eqb (first_in v i) p) (met_in_rule u i)
 
 pub loop-i-init : goal.loop-i-init
-loop-i-init c = (omega arith, meets_start (of_rule c.args.v c.args.p) _ _ c.requires.once, refl)
-
-pub bounds-firsts-i : goal.bounds-firsts-i
-bounds-firsts-i c = omega arith
-
-pub met_in_rule_if-longer-requires : goal.met_in_rule_if-longer-requires
-met_in_rule_if-longer-requires c =
-    let once = c.loop-i.invariant.1.once in
-    (record { viewed = c.requires.viewed; listed = c.requires.listed; once = once }, c.loop-i-test.true)
-
-pub overflow_add-i : goal.overflow_add-i
-overflow_add-i c = omega arith
+loop-i-init c = meets_start (of_rule c.args.v c.args.p) _ _ c.requires.once
 
 pub loop-i-preserved : goal.loop-i-preserved
 loop-i-preserved c =
     let i = c.loop-i.i in
-    let first = c.wide-first.result in
-    let same = c.wide-first.ensures.value in
-    let met = meets_same (λ u. only_if (eqb first c.args.p) (met_in_rule u i)) (λ u. of_rule c.args.v c.args.p u i) _ _ _
-    (λ u x. ap (λ (q : ℕ). only_if (eqb q c.args.p) (met_in_rule u i)) same)
-    c.met_in_rule_if-longer.ensures in (
-      omega arith,
-      meets_next (of_rule c.args.v c.args.p) i _ _ _ _ _ c.loop-i.invariant.1 met,
-      c.met_in_rule_if-longer.auto.list ∙ c.loop-i.invariant.2,
-    )
+    let rule = λ (u : Table). met_in_rule u i in
+    let on = eqb (first_in c.args.v i) c.args.p in
+    let f = of_rule c.args.v c.args.p in
+    let before = take c.loop-i.more c.loop-i.list in
+    let met : Meets c.args.old.now c.args.add.now c.args.v c.args.lists (λ u. f u i) before c.if-from-p.list c.if-from-p.more =
+    elim c.if-from-p.branch [
+      | then-from-p w ↦
+          rw (w.list-is, w.more-is)
+          (meets_on on rule _ _ _ (eq-eqb _ _ (sym c.from.ensures ∙ w.if-from-p.true)) w.met_in_rule-more.ensures)
+      | else-from-p w ↦
+          rw (w.list-is, w.more-is)
+          (meets_off on rule _ _ (ne_eqb _ _ (λ e. w.if-from-p.false (c.from.ensures ∙ e))) c.loop-i.invariant.once)
+    ] in
+    meets_next f i _ _ _ _ _ c.loop-i.invariant met
 
 pub returns : goal.returns
 returns c =
     let e : c.loop-i.i ≡ c.args.v.rules = omega arith in
     meets_same (λ u. joined_of (of_rule c.args.v c.args.p u) (numbers_below c.loop-i.i)) (λ u. met_in_pair u c.args.p) _ _ _
     (λ u x. ap (λ (n : ℕ). joined_of (of_rule c.args.v c.args.p u) (numbers_below n)) e ∙ pair_met x c.args.p)
-    c.loop-i.invariant.1
+    c.loop-i.invariant

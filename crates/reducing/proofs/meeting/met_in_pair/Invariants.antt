@@ -1,8 +1,7 @@
 -- `met_in_pair` meets its contract. The loop's invariant: the pairs met in the rules of the pair before `i` are added.
-use Prim.Native.Nat.{ℕ, ◌-◌, ◌≤◌}
+use Prim.Native.Nat.{ℕ}
 use mathlib.Core.List.{List}
-use mathlib.Core.Path.{◌≡◌}
-use lib.ListN.{length, take}
+use lib.ListN.{take}
 use lib.Dec.{eqb}
 use Rattle.grammar.specs.Lists.{joined_of, numbers_below}
 use Rattle.grammar.specs.Table.{Table}
@@ -17,9 +16,4 @@ of_rule v p u i = only_if (eqb (first_in v i) p) (met_in_rule u i)
 
 abbrev pub invariant-loop-i : goal.invariant-loop-i
 invariant-loop-i l =
-    (l.i ≤ l.rules)
-    × Meets l.old l.add l.v l.lists (λ u. joined_of (of_rule l.v l.p u) (numbers_below l.i)) (take l.count l.initial.list) l.list l.more
-    × (length l.list ≡ length l.initial.list)
-
-abbrev pub decreases-loop-i : goal.decreases-loop-i
-decreases-loop-i l = l.rules - l.i
+    Meets l.old l.add l.v l.lists (λ u. joined_of (of_rule l.v l.p u) (numbers_below l.i)) (take l.count l.initial.list) l.list l.more

@@ -1,5 +1,5 @@
 -- `met_in_set` meets its contract. The loop's invariant: the pairs met in the contents of the set's pairs before `p` are added.
-use Prim.Native.Nat.{ℕ, ◌-◌, ◌≤◌}
+use Prim.Native.Nat.{ℕ}
 use mathlib.Core.Bool.{Bool}
 use mathlib.Core.List.{List, []}
 use mathlib.Core.Path.{◌≡◌}
@@ -16,9 +16,5 @@ of_pair set u p = only_if (set p) (met_in_pair u p)
 
 abbrev pub invariant-loop-p : goal.invariant-loop-p
 invariant-loop-p l =
-    (l.p ≤ l.rules)
-    × Meets l.old l.add l.v l.lists (λ u. joined_of (of_pair (member l.set.words 0) u) (numbers_below l.p)) [] l.numbers l.count
+    Meets l.old l.add l.v l.lists (λ u. joined_of (of_pair (member l.set.words 0) u) (numbers_below l.p)) [] l.numbers l.count
     × (length l.numbers ≡ 256)
-
-abbrev pub decreases-loop-p : goal.decreases-loop-p
-decreases-loop-p l = l.rules - l.p

@@ -13,7 +13,7 @@ pub returns : goal.returns
 returns c = (
   λ u x l.
       c.set_of.ensures.0
-      ∙ ap {B = ℕ → Bool} (λ (list : List ℕ) (p : ℕ). is_in p list) (c.met_in_set-found.ensures.0 u x l)
+      ∙ ap {B = ℕ → Bool} (λ (list : List ℕ) (p : ℕ). is_in p list) (c.met_in_set.ensures.0 u x l)
       ∙ distinct_in (met_in u (member c.args.set.words 0)),
   c.set_of.ensures.1,
 )

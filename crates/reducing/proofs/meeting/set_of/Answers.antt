@@ -3,23 +3,19 @@ use Prim.Native.Nat.{ℕ, ◌-◌}
 use native.Mathlib.Omega.{arith}
 use mathlib.Core.List.{List}
 use mathlib.Core.Path.{◌≡◌, ◌∙◌, ap}
-use lib.ListN.{length, length-replicate, take}
+use lib.ListN.{take}
 use Rattle.grammar.specs.Lists.{is_in}
 use Rattle.sets.specs.Sets.{member, in_either}
 use Rattle.sets.proofs.SetLaws.{member_zeros}
 use Rattle.reducing.proofs.NumberLaws.{both_nothing}
-use Rattle.reducing.proofs.MeetingLaws.{met_part}
 use Rattle.reducing.proofs.meeting.set_of.Goals as goal
-
-pub with_part-requires : goal.with_part-requires
-with_part-requires c = (ap length c.empty-none.ensures ∙ length-replicate {A = ℕ} 8 0, met_part c.args.found c.requires)
 
 pub returns : goal.returns
 returns c =
-    let nothing_yet = ap (λ (w : List ℕ). member w 0) c.empty-none.ensures ∙ member_zeros 8 0 in
+    let nothing_yet = ap (λ (w : List ℕ). member w 0) c.empty.ensures ∙ member_zeros 8 0 in
     let z : c.args.found.count - 0 ≡ c.args.found.count = omega arith in (
       c.with_part.ensures.0
-          ∙ ap (λ (n : ℕ). in_either (λ p. is_in p (take n c.args.found.numbers)) (member c.empty-none.result.words 0)) z
+          ∙ ap (λ (n : ℕ). in_either (λ p. is_in p (take n c.args.found.numbers)) (member c.empty.result.words 0)) z
           ∙ ap (in_either (λ p. is_in p (take c.args.found.count c.args.found.numbers))) nothing_yet
           ∙ both_nothing (λ p. is_in p (take c.args.found.count c.args.found.numbers)),
       c.with_part.ensures.1,

@@ -1,7 +1,5 @@
 -- `append_pairs` meets its contract. The loop's invariant: the pairs of the type before `p` are laid down.
-use Prim.Native.Nat.{◌-◌, ◌≤◌}
-use mathlib.Core.Path.{◌≡◌}
-use lib.ListN.{length, take}
+use lib.ListN.{take}
 use Rattle.grammar.specs.Lists.{keep, numbers_below}
 use Rattle.sets.specs.Sets.{member}
 use Rattle.reducing.specs.PairsListed.{is_pair, Appends}
@@ -9,9 +7,4 @@ use Rattle.reducing.proofs.type_lists.append_pairs.Given as goal
 
 abbrev pub invariant-loop-p : goal.invariant-loop-p
 invariant-loop-p l =
-    (l.p ≤ l.rules)
-    × Appends (take l.count l.initial.numbers) (keep (is_pair l.v (member l.known.words 0) l.ty) (numbers_below l.p)) l.numbers l.more
-    × (length l.numbers ≡ length l.initial.numbers)
-
-abbrev pub decreases-loop-p : goal.decreases-loop-p
-decreases-loop-p l = l.rules - l.p
+    Appends (take l.count l.initial.numbers) (keep (is_pair l.v (member l.known.words 0) l.ty) (numbers_below l.p)) l.numbers l.more

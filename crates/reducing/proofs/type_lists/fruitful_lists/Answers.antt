@@ -9,14 +9,11 @@ use mathlib.Core.List.{List}
 use mathlib.Core.Path.{◌≡◌, ◌∙◌, ap}
 use Rattle.reducing.proofs.type_lists.fruitful_lists.Goals as goal
 
-pub load_eight-known-requires : goal.load_eight-known-requires
-load_eight-known-requires c = omega arith
-
 pub returns : goal.returns
 returns c =
     λ old add u x e.
-    let known = member c.load_eight-known.result.words 0 in
-    let is = ap (λ (w : List ℕ). member w 0) c.load_eight-known.ensures ∙ e in
+    let known = member c.load-known.result.words 0 in
+    let is = ap (λ (w : List ℕ). member w 0) c.load-known.ensures ∙ e in
     lists_both (fruitful_of u) (λ k. pairs_in c.args.v known (0 + k)) (λ k. pairs_in c.args.v known (128 + k)) _ _
     c.lists_from-old.ensures
     c.lists_from-addition.ensures

@@ -16,22 +16,14 @@ use Rattle.reducing.proofs.type_lists.types_listed.Goals as goal
 pub loop-k-init : goal.loop-k-init
 loop-k-init c =
     let zeros = c.empty-set.ensures in (
-      omega arith,
       λ of x. puts_start (some_left of) (λ j. j) nothing _ (ap (λ (w : List ℕ). member w 0) zeros ∙ member_zeros 8 0),
       ap length zeros ∙ length-replicate {A = ℕ} 8 0,
     )
 
-pub is_listed-requires : goal.is_listed-requires
-is_listed-requires c = c.loop-k-test.true
-
-pub put_if-more-requires : goal.put_if-more-requires
-put_if-more-requires c = (c.loop-k-test.true, c.loop-k.invariant.2)
-
 pub loop-k-preserved : goal.loop-k-preserved
 loop-k-preserved c = (
-  omega arith,
-  λ of x. puts_step (some_left of) (λ j. j) nothing c.loop-k.k _ _ _ _ (c.loop-k.invariant.1 of x) c.put_if-more.ensures.0 (c.is_listed.ensures of x) refl,
-  c.put_if-more.ensures.1,
+  λ of x. puts_step (some_left of) (λ j. j) nothing c.loop-k.k _ _ _ _ (c.loop-k.invariant.0 of x) c.put_if-set.ensures.0 (c.is_listed.ensures of x) refl,
+  c.put_if-set.ensures.1,
 )
 
 pub returns : goal.returns
@@ -39,6 +31,6 @@ returns c =
     let e : c.loop-k.k ≡ 256 = omega arith in (
       λ of x.
           types_all (some_left of) (member c.loop-k.set.words 0) 256
-          (c.loop-k.invariant.1 of x ∙ ap (puts (some_left of) (λ j. j) nothing) e),
-      c.loop-k.invariant.2,
+          (c.loop-k.invariant.0 of x ∙ ap (puts (some_left of) (λ j. j) nothing) e),
+      c.loop-k.invariant.1,
     )

@@ -1,6 +1,6 @@
 -- `types_listed` meets its contract. The loop's invariant: of the types before `k`, those with a list that is not empty are in the
 -- set.
-use Prim.Native.Nat.{ℕ, ◌-◌, ◌≤◌}
+use Prim.Native.Nat.{ℕ}
 use mathlib.Core.List.{List}
 use mathlib.Core.Path.{◌≡◌}
 use lib.ListN.{length}
@@ -12,9 +12,5 @@ use Rattle.reducing.proofs.type_lists.types_listed.Given as goal
 
 abbrev pub invariant-loop-k : goal.invariant-loop-k
 invariant-loop-k l =
-    (l.k ≤ 256)
-    × ((of : ℕ → List ℕ) → ListsOf of l.lists → member l.set.words 0 ≡ puts (some_left of) (λ j. j) nothing l.k)
+    ((of : ℕ → List ℕ) → ListsOf of l.lists → member l.set.words 0 ≡ puts (some_left of) (λ j. j) nothing l.k)
     × (length l.set.words ≡ 8)
-
-abbrev pub decreases-loop-k : goal.decreases-loop-k
-decreases-loop-k l = 256 - l.k

@@ -10,42 +10,28 @@ use Rattle.sets.proofs.SetLaws.{member_zeros, eight_set, stored_kept}
 use Rattle.union.specs.Places.{used_at}
 use Rattle.union.specs.Rounds.{puts}
 use Rattle.union.proofs.PutsLaws.{put_in, puts_start, puts_step}
-use Rattle.union.proofs.ViewLaws.{views_sized}
 use Rattle.results.proofs.LabelLaws.{label_at, used_are}
-use Rattle.results.proofs.SetLaws.{set_held, set_room, set_eight, set_ascending, set_some, label_small}
+use Rattle.results.proofs.SetLaws.{set_held, set_ascending, set_some, label_small}
 use Rattle.results.proofs.labels_used.labels_used.Goals as goal
 
 pub loop-i-init : goal.loop-i-init
 loop-i-init c =
     let zeros = c.empty-used.ensures in (
-      omega arith,
       ap length zeros ∙ length-replicate {A = ℕ} 8 0,
       λ old add q.
           puts_start (λ j. true) (label_at q.table q.sets) nothing _
           (ap (λ (w : List ℕ). member w 0) zeros ∙ member_zeros 8 0),
     )
 
-pub overflow_mul-i : goal.overflow_mul-i
-overflow_mul-i c = omega arith
-
-pub load_eight-set-requires : goal.load_eight-set-requires
-load_eight-set-requires c = set_room c.requires.0.2 c.loop-i.i c.loop-i-test.true
-
-pub set_label-requires : goal.set_label-requires
-set_label-requires c =
-    let q = c.requires.0.2 in
-    (views_sized q.views, set_eight q c.loop-i.i c.loop-i-test.true _ c.load_eight-set.ensures)
-
-pub with-more-requires : goal.with-more-requires
-with-more-requires c =
+pub with-used-requires : goal.with-used-requires
+with-used-requires c =
     let q = c.requires.0.2 in
     let i = c.loop-i.i in
-    let h = c.loop-i-test.true in
-    label_small q i h _
-    (c.set_label.ensures _ _ q.table _ q.views (set_held q i h _ c.load_eight-set.ensures) (set_ascending q i h) (set_some q i h))
-
-pub overflow_add-i : goal.overflow_add-i
-overflow_add-i c = omega arith
+    let h = c.loop-i-test.true in (
+      omega arith,
+      label_small q i h _
+          (c.set_label.ensures _ _ q.table _ q.views (set_held q i h _ c.load-set.ensures) (set_ascending q i h) (set_some q i h)),
+    )
 
 pub loop-i-preserved : goal.loop-i-preserved
 loop-i-preserved c =
@@ -54,26 +40,22 @@ loop-i-preserved c =
     let h = c.loop-i-test.true in
     let small =
     label_small p i h c.set_label.result
-    (c.set_label.ensures _ _ p.table _ p.views (set_held p i h _ c.load_eight-set.ensures) (set_ascending p i h) (set_some p i h)) in
-    let more = put_in true c.loop-i.used.words c.with-more.result.words c.set_label.result refl c.with-more.ensures small c.loop-i.invariant.1 in (
-      omega arith,
+    (c.set_label.ensures _ _ p.table _ p.views (set_held p i h _ c.load-set.ensures) (set_ascending p i h) (set_some p i h)) in
+    let more = put_in true c.loop-i.used.words c.with-used.result.words c.set_label.result refl c.with-used.ensures small c.loop-i.invariant.0 in (
       more.1,
       λ old add q.
-          puts_step (λ j. true) (label_at q.table q.sets) nothing i _ _ true _ (c.loop-i.invariant.2 old add q) more.0 refl
-          (c.set_label.ensures old add q.table _ q.views (set_held q i h _ c.load_eight-set.ensures) (set_ascending q i h) (set_some q i h)),
+          puts_step (λ j. true) (label_at q.table q.sets) nothing i _ _ true _ (c.loop-i.invariant.1 old add q) more.0 refl
+          (c.set_label.ensures old add q.table _ q.views (set_held q i h _ c.load-set.ensures) (set_ascending q i h) (set_some q i h)),
     )
-
-pub store_eight-requires : goal.store_eight-requires
-store_eight-requires c = omega arith
 
 pub returns : goal.returns
 returns c = (
   λ old add q.
       let count = q.count_is in
       let e : c.loop-i.i ≡ length q.sets = omega arith in
-      eight_set _ used_at _ _ (omega arith) c.loop-i.invariant.1 c.store_eight.ensures
-      ∙ c.loop-i.invariant.2 old add q
+      eight_set _ used_at _ _ (omega arith) c.loop-i.invariant.0 c.store.ensures
+      ∙ c.loop-i.invariant.1 old add q
       ∙ ap (puts (λ j. true) (label_at q.table q.sets) nothing) e
       ∙ used_are q.table q.sets,
-  stored_kept _ used_at 8 _ _ (omega arith) c.loop-i.invariant.1 c.store_eight.ensures,
+  stored_kept _ used_at 8 _ _ (omega arith) c.loop-i.invariant.0 c.store.ensures,
 )

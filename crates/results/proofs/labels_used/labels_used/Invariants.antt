@@ -1,5 +1,5 @@
 -- `labels_used` meets its contract. The loop's invariant: the set has the labels of the sets before `i`.
-use Prim.Native.Nat.{ℕ, ◌-◌, ◌≤◌}
+use Prim.Native.Nat.{ℕ}
 use mathlib.Core.Bool.{true}
 use mathlib.Core.List.{List}
 use mathlib.Core.Path.{◌≡◌}
@@ -12,10 +12,6 @@ use Rattle.results.proofs.labels_used.labels_used.Given as goal
 
 abbrev pub invariant-loop-i : goal.invariant-loop-i
 invariant-loop-i l =
-    (l.i ≤ l.count)
-    × (length l.used.words ≡ 8)
+    (length l.used.words ≡ 8)
     × ((old add : List ℕ) (q : SetsIn old add l.v l.words l.count)
     → member l.used.words 0 ≡ puts (λ j. true) (label_at q.table q.sets) nothing l.i)
-
-abbrev pub decreases-loop-i : goal.decreases-loop-i
-decreases-loop-i l = l.count - l.i

@@ -1,18 +1,11 @@
 -- `put_name` meets its contract: the name stands where the places of its own table say.
 use Prim.Native.Nat.{ℕ}
-use native.Mathlib.Omega.{arith}
 use mathlib.Core.List.{List}
 use mathlib.Core.Path.{subst}
 use Rattle.grammar.specs.Fields.{field_bytes}
 use Rattle.writer.specs.Writing.{Puts}
 use Rattle.results.proofs.ResultLaws.{name_old, name_new}
 use Rattle.results.proofs.labels_used.put_name.Goals as goal
-
-pub label_from-from-requires : goal.label_from-from-requires
-label_from-from-requires c = omega (arith, c.label_count-count.ensures, c.if-label-count.true)
-
-pub label_to-to-requires : goal.label_to-to-requires
-label_to-to-requires c = omega (arith, c.label_count-count.ensures, c.if-label-count.true)
 
 pub slice_bounds-put_field-count : goal.slice_bounds-put_field-count
 slice_bounds-put_field-count c =
@@ -37,15 +30,15 @@ returns-then-label-count c =
 
 pub slice_bounds-put_field-count-2 : goal.slice_bounds-put_field-count-2
 slice_bounds-put_field-count-2 c =
-    (name_new c.requires.3 c.args.label _ _ _ c.label_count-count.ensures c.wider-from.ensures.value c.wider-to.ensures.value c.if-label-count.false c.requires.2).0.order
+    (name_new c.requires.3 c.args.label _ _ _ c.label_count-count.ensures c.from-from.ensures c.from-to.ensures c.if-label-count.false c.requires.2).0.order
 
 pub slice_bounds-put_field-start-2 : goal.slice_bounds-put_field-start-2
 slice_bounds-put_field-start-2 c =
-    (name_new c.requires.3 c.args.label _ _ _ c.label_count-count.ensures c.wider-from.ensures.value c.wider-to.ensures.value c.if-label-count.false c.requires.2).0.order
+    (name_new c.requires.3 c.args.label _ _ _ c.label_count-count.ensures c.from-from.ensures c.from-to.ensures c.if-label-count.false c.requires.2).0.order
 
 pub slice_bounds-put_field-end-2 : goal.slice_bounds-put_field-end-2
 slice_bounds-put_field-end-2 c =
-    (name_new c.requires.3 c.args.label _ _ _ c.label_count-count.ensures c.wider-from.ensures.value c.wider-to.ensures.value c.if-label-count.false c.requires.2).0.within
+    (name_new c.requires.3 c.args.label _ _ _ c.label_count-count.ensures c.from-from.ensures c.from-to.ensures c.if-label-count.false c.requires.2).0.within
 
 pub returns : goal.returns
 returns c =
@@ -53,5 +46,5 @@ returns c =
     subst
     (λ (name : List ℕ).
     Puts c.args.draft.now c.args.at (field_bytes 0x10 name) c.put_field-2.new.draft c.put_field-2.result)
-    (name_new q c.args.label _ _ _ c.label_count-count.ensures c.wider-from.ensures.value c.wider-to.ensures.value c.if-label-count.false c.requires.2).1
+    (name_new q c.args.label _ _ _ c.label_count-count.ensures c.from-from.ensures c.from-to.ensures c.if-label-count.false c.requires.2).1
     c.put_field-2.ensures

@@ -9,10 +9,8 @@ use Rattle.union.specs.Places.{start_types_at}
 use Rattle.writer.specs.Tables.{rest_bytes}
 use Rattle.writer.proofs.TableLaws.{put_length_is, put_over, put_then}
 use Rattle.results.specs.Results.{rule_from, starts_bytes}
+use Rattle.reader.proofs.AnswerLaws.{handed_on}
 use Rattle.results.proofs.result.put_body.Goals as goal
-
-pub put_starts-requires : goal.put_starts-requires
-put_starts-requires c = (c.requires.0, c.requires.1, c.requires.3.rules.room, omega arith)
 
 pub put_rest-requires : goal.put_rest-requires
 put_rest-requires c =
@@ -22,23 +20,24 @@ put_rest-requires c =
     put_length_is c.args.draft.now c.args.at rule n (starts_bytes (set_of_eight_at c.args.words.now start_types_at) n) (rest_bytes rule n) c.put_starts.new.draft []
     c.put_starts.result
     c.put_starts.ensures
-    c.in-Length.is in
+    c.in_ok-end.was in
     let w : length c.put_starts.new.draft ≡ length c.args.draft.now = search rules in
     (h.1, omega arith, c.requires.2, c.requires.3)
 
-pub returns-in-TooLarge : goal.returns-in-TooLarge
-returns-in-TooLarge c =
-    let n = c.args.plan.count in
+pub returns-in_err-end : goal.returns-in_err-end
+returns-in_err-end c =
+    rw (handed_on c.from_residual.result c.from_residual.ensures)
+    (let n = c.args.plan.count in
     λ q.
     let rule = rule_from q.rules in
     put_over c.args.draft.now c.args.at rule n (starts_bytes (set_of_eight_at c.args.words.now start_types_at) n) (rest_bytes rule n) c.put_starts.new.draft
     c.put_starts.new.draft
     c.put_starts.result
     c.put_starts.ensures
-    c.in-TooLarge.is
+    c.in_err-end.was)
 
-pub returns-in-Length : goal.returns-in-Length
-returns-in-Length c =
+pub returns : goal.returns
+returns c =
     let n = c.args.plan.count in
     λ q.
     let rule = rule_from q.rules in
@@ -46,6 +45,6 @@ returns-in-Length c =
     c.put_rest.new.draft
     c.put_starts.result
     c.put_starts.ensures
-    c.in-Length.is
+    c.in_ok-end.was
     c.put_rest.result
     (c.put_rest.ensures q)

@@ -9,12 +9,6 @@ use Rattle.results.specs.declared.plan.Kind.{Kind}
 use Rattle.results.specs.PlanKind.{kind_of}
 use Rattle.results.proofs.rules.pairs_within.Goals as goal
 
-pub met_set-requires : goal.met_set-requires
-met_set-requires c = (
-  record { table = c.requires.0.0; views = c.requires.0.1 },
-  record { old = c.requires.0.2.old_listed; added = c.requires.0.2.added_listed },
-)
-
 pub returns-in-Local : goal.returns-in-Local
 unfolding kind_of
 returns-in-Local c = (

@@ -2,9 +2,8 @@
 use Prim.Native.Nat.{ℕ}
 use native.Mathlib.Omega.{arith}
 use mathlib.Core.Bool.{false}
-use mathlib.Core.Path.{◌≡◌, refl, subst}
+use mathlib.Core.Path.{◌≡◌, subst}
 use borrow.Author.Count.{below_more}
-use borrow.Author.Rules.{rules}
 use Rattle.grammar.specs.Lists.{joined_of, numbers_below}
 use Rattle.grammar.specs.Limits.{large}
 use Rattle.grammar.specs.Size.{content_too_large}
@@ -12,51 +11,41 @@ use Rattle.writer.specs.Writing.{Put}
 use Rattle.writer.specs.Tables.{numbered_field}
 use Rattle.writer.proofs.TableLaws.{up_start, rules_stop, rules_more}
 use Rattle.results.specs.Results.{rule_from}
+use Rattle.reader.proofs.AnswerLaws.{handed_on}
 use Rattle.results.proofs.rules.put_rules.Goals as goal
 
 pub loop-i-init : goal.loop-i-init
 loop-i-init c = (
-  omega arith,
   c.requires.0,
-  refl,
-  refl,
   λ q. up_start (numbered_field (rule_from q.rules)) c.args.draft.now c.args.at (omega arith),
   λ q j h. absurd (omega arith),
 )
 
-pub put_rule-requires : goal.put_rule-requires
-put_rule-requires c = (c.loop-i.invariant.1, omega arith, omega arith, c.loop-i-test.true, c.requires.3)
-
-pub returns-in-TooLarge : goal.returns-in-TooLarge
-returns-in-TooLarge c =
-    let below = c.loop-i-test.true in
+pub returns-in_err-end : goal.returns-in_err-end
+returns-in_err-end c =
+    rw (handed_on c.from_residual.result c.from_residual.ensures)
+    (let below = c.loop-i-test.true in
     λ q.
-    rules_stop (rule_from q.rules) c.loop-i.i (c.loop-i.invariant.4 q) c.put_rule.new.draft c.put_rule.result (c.put_rule.ensures q) c.in-TooLarge.is
+    rules_stop (rule_from q.rules) c.loop-i.i (c.loop-i.invariant.1 q) c.put_rule.new.draft c.put_rule.result (c.put_rule.ensures q) c.in_err-end.was
     c.args.plan.count
-    below
-
-pub overflow_add-i : goal.overflow_add-i
-overflow_add-i c = omega arith
+    below)
 
 pub loop-i-preserved : goal.loop-i-preserved
 loop-i-preserved c =
-    let next = c.in-Length.is in
+    let next = c.in_ok-end.was in
     let p = c.requires.3 in (
-      omega arith,
-      (rules_more (rule_from p.rules) c.loop-i.i (c.loop-i.invariant.4 p) c.put_rule.new.draft c.put_rule.result (c.put_rule.ensures p) next).1,
-      search rules,
-      search rules,
-      λ q. (rules_more (rule_from q.rules) c.loop-i.i (c.loop-i.invariant.4 q) c.put_rule.new.draft c.put_rule.result (c.put_rule.ensures q) next).0,
+      (rules_more (rule_from p.rules) c.loop-i.i (c.loop-i.invariant.1 p) c.put_rule.new.draft c.put_rule.result (c.put_rule.ensures p) next).1,
+      λ q. (rules_more (rule_from q.rules) c.loop-i.i (c.loop-i.invariant.1 q) c.put_rule.new.draft c.put_rule.result (c.put_rule.ensures q) next).0,
       λ q.
-          below_more (λ j. content_too_large large (rule_from q.rules j).content ≡ false) c.loop-i.i (c.loop-i.invariant.5 q)
-          (rules_more (rule_from q.rules) c.loop-i.i (c.loop-i.invariant.4 q) c.put_rule.new.draft c.put_rule.result (c.put_rule.ensures q) next).2,
+          below_more (λ j. content_too_large large (rule_from q.rules j).content ≡ false) c.loop-i.i (c.loop-i.invariant.2 q)
+          (rules_more (rule_from q.rules) c.loop-i.i (c.loop-i.invariant.1 q) c.put_rule.new.draft c.put_rule.result (c.put_rule.ensures q) next).2,
     )
 
 pub returns : goal.returns
 returns c =
     λ q.
     let e : c.loop-i.i ≡ c.args.plan.count = omega arith in (
-      subst (λ (n : ℕ). Put c.args.draft.now c.args.at (joined_of (numbered_field (rule_from q.rules)) (numbers_below n)) c.loop-i.draft c.loop-i.end) e (c.loop-i.invariant.4 q),
-      c.loop-i.invariant.1,
-      λ j h. c.loop-i.invariant.5 q j (omega arith),
+      subst (λ (n : ℕ). Put c.args.draft.now c.args.at (joined_of (numbered_field (rule_from q.rules)) (numbers_below n)) c.loop-i.draft c.loop-i.end) e (c.loop-i.invariant.1 q),
+      c.loop-i.invariant.0,
+      λ j h. c.loop-i.invariant.2 q j (omega arith),
     )

@@ -1,52 +1,24 @@
 -- `set_content` meets its contract: the content of the set's pairs, with the number of a set for each pair.
-use native.Mathlib.Omega.{arith}
 use Prim.Native.Nat.{ℕ}
 use mathlib.Core.List.{List}
 use mathlib.Core.Path.{sym, ◌∙◌, ap, subst}
-use lib.ListN.{length}
 use Rattle.grammar.specs.Lists.{place, same_numbers}
 use Rattle.grammar.specs.Content.{Content}
 use Rattle.theory.specs.Conditions.{Regular}
 use Rattle.sets.specs.Sets.{member}
-use Rattle.sets.proofs.SetLaws.{length-words}
-use Rattle.union.proofs.ViewLaws.{views_sized}
 use Rattle.contents.specs.Completing.{Made}
 use Rattle.forms.specs.SetForms.{pairs_labelled}
 use Rattle.results.specs.PlanKind.{kind_of}
-use Rattle.results.proofs.SetLaws.{set_held, set_eight, content_is}
+use Rattle.results.proofs.SetLaws.{set_held, content_is}
 use Rattle.results.proofs.ContentLaws.{all_labels, merged}
 use Rattle.results.proofs.rules.set_content.Goals as goal
-
-pub load_eight-left-requires : goal.load_eight-left-requires
-load_eight-left-requires c = omega arith
-
-pub pairs_within-within-requires : goal.pairs_within-within-requires
-pairs_within-within-requires c = (
-  (c.requires.3.in_words.table, c.requires.3.in_words.views, c.requires.3.lists_are),
-  ap length c.load_eight-left.ensures ∙ length-words _ _ 8 (omega arith),
-  set_eight c.requires.3.in_words c.args.i c.requires.1 _ c.requires.2,
-)
-
-pub label_numbers-numbers-requires : goal.label_numbers-numbers-requires
-label_numbers-numbers-requires c = (
-  views_sized c.requires.3.in_words.views,
-  omega arith,
-  record { few = omega arith; room = c.requires.3.in_words.held.room; eight = c.pairs_within-within.ensures.1 },
-)
-
-pub result_lists-lists-requires : goal.result_lists-lists-requires
-result_lists-lists-requires c = (
-  views_sized c.requires.3.in_words.views,
-  ap length c.load_eight-left.ensures ∙ length-words _ _ 8 (omega arith),
-  c.label_numbers-numbers.ensures.1,
-)
 
 pub content_of_set-requires : goal.content_of_set-requires
 content_of_set-requires c =
     let q = c.requires.3 in
     let s = q.in_words in
     let within = member c.pairs_within-within.result.words 0 in
-    let left = ap (λ (w : List ℕ). member w 0) c.load_eight-left.ensures ∙ q.left_is in
+    let left = ap (λ (w : List ℕ). member w 0) c.load-left.ensures ∙ q.left_is in
     let numbers = c.label_numbers-numbers.ensures.0 _ _ s.table s.sets s.views s.held s.count_is in
     let listed =
     c.result_lists-lists.ensures _ _ s.table s.sets within s.views q.lists_are left s.labelled
@@ -60,7 +32,7 @@ returns c =
     let within = member c.pairs_within-within.result.words 0 in
     let i = c.args.i in
     let kind = kind_of c.args.plan.kind in
-    let left = ap (λ (w : List ℕ). member w 0) c.load_eight-left.ensures ∙ q.left_is in
+    let left = ap (λ (w : List ℕ). member w 0) c.load-left.ensures ∙ q.left_is in
     let numbers = c.label_numbers-numbers.ensures.0 _ _ s.table s.sets s.views s.held s.count_is in
     let listed =
     c.result_lists-lists.ensures _ _ s.table s.sets within s.views q.lists_are left s.labelled

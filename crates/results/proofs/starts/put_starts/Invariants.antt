@@ -1,9 +1,7 @@
 -- `put_starts` meets its contract. The loop's invariant: the starts before `t` are written.
-use Prim.Native.Nat.{ℕ, ◌-◌, ◌≤◌}
+use Prim.Native.Nat.{ℕ, ◌≤◌}
 use mathlib.Core.Bool.{Bool}
 use mathlib.Core.List.{List, [], ◌∷◌}
-use mathlib.Core.Path.{◌≡◌}
-use lib.ListN.{length}
 use Rattle.grammar.specs.Limits.{input_limit}
 use Rattle.grammar.specs.Lists.{joined_of, numbers_below}
 use Rattle.grammar.specs.Fields.{field_bytes}
@@ -17,10 +15,5 @@ start_field on k = only_if (on k) (field_bytes 0x11 (k ∷ []))
 
 abbrev pub invariant-loop-t : goal.invariant-loop-t
 invariant-loop-t l =
-    (l.t ≤ l.count)
-    × (l.end ≤ input_limit)
-    × (length l.draft ≡ length l.initial.draft)
+    (l.end ≤ input_limit)
     × Put l.initial.draft l.at (joined_of (start_field (member l.starts.words 0)) (numbers_below l.t)) l.draft l.end
-
-abbrev pub decreases-loop-t : goal.decreases-loop-t
-decreases-loop-t l = l.count - l.t

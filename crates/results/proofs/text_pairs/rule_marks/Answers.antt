@@ -6,7 +6,7 @@ use Rattle.results.proofs.text_pairs.rule_marks.Goals as goal
 pub returns-then-rule_text : goal.returns-then-rule_text
 returns-then-rule_text c =
     λ u x typed.
-    marking_rule x _ typed _ c.requires.1 _ (c.rule_has-has.ensures u x) (sym (c.rule_text.ensures u x) ∙ c.if-rule_text.true)
+    marking_rule x _ typed _ c.requires.1 _ (c.rule_has.ensures u x) (sym (c.rule_text.ensures u x) ∙ c.if-rule_text.true)
 
-pub returns : goal.returns
-returns c = λ u x typed. plain_rule x _ (sym (c.rule_text.ensures u x) ∙ c.if-rule_text.false)
+pub returns-else-rule_text : goal.returns-else-rule_text
+returns-else-rule_text c = λ u x typed. c.if-rule_text.false ∙ plain_rule x _ (sym (c.rule_text.ensures u x) ∙ c.if-rule_text.false)

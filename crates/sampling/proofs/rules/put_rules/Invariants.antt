@@ -1,5 +1,5 @@
 -- `put_rules` meets its contract. The loop's invariant: the rules passed are written, and none of their contents is too large.
-use Prim.Native.Nat.{ℕ, ◌-◌, ◌≤◌, ◌<◌}
+use Prim.Native.Nat.{ℕ, ◌≤◌, ◌<◌}
 use mathlib.Core.Bool.{false}
 use mathlib.Core.Path.{◌≡◌}
 use lib.ListN.{length}
@@ -13,12 +13,8 @@ use Rattle.sampling.proofs.rules.put_rules.Given as goal
 
 abbrev pub invariant-loop-k : goal.invariant-loop-k
 invariant-loop-k l =
-    (l.k ≤ l.count)
-    × (l.end ≤ input_limit)
+    (l.end ≤ input_limit)
     × (length l.draft ≡ length l.initial.draft)
     × (length l.scratch ≡ length l.initial.scratch)
     × Put l.initial.draft l.at (joined_of (numbered_field (rule_in l.shapes l.parents l.types l.labels l.nodes)) (numbers_below l.k)) l.draft l.end
     × ((j : ℕ) → j < l.k → content_too_large large (rule_in l.shapes l.parents l.types l.labels l.nodes j).content ≡ false)
-
-abbrev pub decreases-loop-k : goal.decreases-loop-k
-decreases-loop-k l = l.count - l.k

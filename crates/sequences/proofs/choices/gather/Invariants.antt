@@ -1,6 +1,6 @@
 -- `gather` meets its contract. The loop's invariant: the sequences of the nodes passed stand in the draft, noted.
 use mathlib.Core.List.{[]}
-use Prim.Native.Nat.{◌-◌, ◌≤◌}
+use Prim.Native.Nat.{◌≤◌}
 use mathlib.Core.Path.{◌≡◌}
 use lib.ListN.{length}
 use Rattle.grammar.specs.Limits.{operand_limit}
@@ -15,10 +15,6 @@ abbrev pub invariant-loop-i : goal.invariant-loop-i
 invariant-loop-i l =
     Row l.scratch 4 l.count (gathered [] (sequences_among l.parents l.types l.nodes l.k (numbers_below l.i))) l.end
     × (l.end ≤ operands_end)
-    × (l.i ≤ l.nodes)
     × (length l.scratch ≡ length l.initial.scratch)
     × Noted l.notes (gathered [] (sequences_among l.parents l.types l.nodes l.k (numbers_below l.i)))
     × (length l.notes ≡ operand_limit)
-
-abbrev pub decreases-loop-i : goal.decreases-loop-i
-decreases-loop-i l = l.nodes - l.i

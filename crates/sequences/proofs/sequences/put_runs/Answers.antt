@@ -1,6 +1,6 @@
 -- `put_runs` meets its contract. The loop's invariant: the runs that begin before `p` are written.
 use native.Mathlib.Omega.{arith}
-use Rattle.sequences.proofs.RunLaws.{put_no_run, runs_length, run_room, run_next, all_runs}
+use Rattle.sequences.proofs.RunLaws.{put_no_run, run_room, run_next, all_runs}
 use Rattle.sequences.proofs.sequences.put_runs.Goals as goal
 
 pub loop-p-init : goal.loop-p-init
@@ -11,9 +11,6 @@ put_run-end-requires c = run_room c.loop-p.invariant c.loop-p-test.true c.goes_o
 
 pub loop-p-preserved : goal.loop-p-preserved
 loop-p-preserved c = run_next c.loop-p.invariant c.loop-p-test.true c.goes_on-on.result c.goes_on-on.ensures c.put_run-end.ensures
-
-pub shape_of-scratch : goal.shape_of-scratch
-shape_of-scratch c = runs_length c.loop-p.invariant
 
 pub returns : goal.returns
 returns c = all_runs c.loop-p.invariant (omega arith)

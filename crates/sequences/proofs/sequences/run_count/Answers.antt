@@ -3,19 +3,18 @@ use native.Mathlib.Omega.{arith}
 use mathlib.Core.Path.{sym, ◌∙◌}
 use Rattle.sequences.proofs.RunLaws.{runs_on, runs_end, runs_passed}
 use Rattle.sequences.proofs.sequences.run_count.Goals as goal
-
-pub loop-at-preserved-then-goes_on : goal.loop-at-preserved-then-goes_on
-loop-at-preserved-then-goes_on c =
-    let on = runs_on c.args.kinds.now c.loop-at.at c.loop-at-test.true (sym c.goes_on.ensures ∙ c.if-goes_on.true) in
-    (omega arith, omega arith)
-
-pub overflow_add-runs : goal.overflow_add-runs
-overflow_add-runs c = omega arith
+use Rattle.sequences.proofs.sequences.run_count.Goals.{then-not-goes_on, else-not-goes_on}
 
 pub loop-at-preserved : goal.loop-at-preserved
 loop-at-preserved c =
-    let end = runs_end c.args.kinds.now c.loop-at.at c.loop-at-test.true (sym c.goes_on.ensures ∙ c.if-goes_on.false) in
-    (omega arith, omega arith)
+    elim c.if-not-goes_on.branch [
+      | then-not-goes_on w ↦
+          let end = runs_end c.args.kinds.now c.loop-at.at c.loop-at-test.true (sym c.goes_on.ensures ∙ w.if-not-goes_on.true) in
+          (omega arith, omega arith)
+      | else-not-goes_on w ↦
+          let on = runs_on c.args.kinds.now c.loop-at.at c.loop-at-test.true (sym c.goes_on.ensures ∙ w.if-not-goes_on.false) in
+          (omega arith, omega arith)
+    ]
 
 pub returns : goal.returns
 returns c =

@@ -9,38 +9,26 @@ use Rattle.sets.specs.Sets.{member, nothing}
 use Rattle.sets.proofs.SetLaws.{member_zeros, eight_set, stored_kept}
 use Rattle.union.specs.Places.{start_types_at}
 use Rattle.union.specs.Rounds.{puts}
-use Rattle.union.proofs.PutsLaws.{puts_start, puts_step}
+use Rattle.union.proofs.PutsLaws.{puts_start, puts_step, put_in}
 use Rattle.steps.proofs.start_types.first_numbers.Goals as goal
 
 pub loop-t-init : goal.loop-t-init
 loop-t-init c =
     let zeros = c.empty-set.ensures in (
-      omega arith,
       puts_start _ _ _ _ (ap (λ (w : List ℕ). member w 0) zeros ∙ member_zeros 8 0),
       ap length zeros ∙ length-replicate {A = ℕ} 8 0,
     )
 
-pub put_if-more-requires : goal.put_if-more-requires
-put_if-more-requires c = (omega arith, c.loop-t.invariant.2)
-
-pub overflow_add-t : goal.overflow_add-t
-overflow_add-t c = omega arith
-
 pub loop-t-preserved : goal.loop-t-preserved
-loop-t-preserved c = (
-  omega arith,
-  puts_step _ _ _ c.loop-t.t _ _ _ _ c.loop-t.invariant.1 c.put_if-more.ensures.0 refl refl,
-  c.put_if-more.ensures.1,
-)
-
-pub store_eight-requires : goal.store_eight-requires
-store_eight-requires c = omega arith
+loop-t-preserved c =
+    let put = put_in true _ _ c.loop-t.t refl c.with-set.ensures (omega arith) c.loop-t.invariant.1 in
+    (puts_step _ _ _ c.loop-t.t _ _ true _ c.loop-t.invariant.0 put.0 refl refl, put.1)
 
 pub returns : goal.returns
 returns c =
     let e : c.loop-t.t ≡ c.args.n = omega arith in (
-      eight_set _ start_types_at _ _ (omega arith) c.loop-t.invariant.2 c.store_eight.ensures
-          ∙ c.loop-t.invariant.1
+      eight_set _ start_types_at _ _ (omega arith) c.loop-t.invariant.1 c.store.ensures
+          ∙ c.loop-t.invariant.0
           ∙ ap (puts (λ s. true) (λ s. s) nothing) e,
-      stored_kept _ start_types_at 8 _ _ (omega arith) c.loop-t.invariant.2 c.store_eight.ensures,
+      stored_kept _ start_types_at 8 _ _ (omega arith) c.loop-t.invariant.1 c.store.ensures,
     )

@@ -1,5 +1,4 @@
 -- `start_numbers` meets its contract. The loop's invariant: the set has the numbers of the start pairs before `p`.
-use Prim.Native.Nat.{◌-◌, ◌≤◌}
 use mathlib.Core.Path.{◌≡◌}
 use lib.ListN.{length, get_or}
 use Rattle.sets.specs.Sets.{member, nothing}
@@ -8,9 +7,5 @@ use Rattle.steps.proofs.start_types.start_numbers.Given as goal
 
 abbrev pub invariant-loop-p : goal.invariant-loop-p
 invariant-loop-p l =
-    (l.p ≤ l.rules)
-    × (member l.set.words 0 ≡ puts (member l.starts.words 0) (λ q. get_or l.of (get_or l.labels q 0) 0) nothing l.p)
+    (member l.set.words 0 ≡ puts (member l.starts.words 0) (λ q. get_or l.numbers.of (get_or l.v.labels q 0) 0) nothing l.p)
     × (length l.set.words ≡ 8)
-
-abbrev pub decreases-loop-p : goal.decreases-loop-p
-decreases-loop-p l = l.rules - l.p

@@ -18,9 +18,6 @@ loop-v-init c =
     let nothing = ap (λ (w : List ℕ). member w 0) zeros ∙ member_zeros 8 0 in
     (λ u x p e. absurd (false≢true (sym (ap (λ set. set p) nothing) ∙ e)), ap length zeros ∙ length-replicate {A = ℕ} 8 0)
 
-pub round-next-requires : goal.round-next-requires
-round-next-requires c = (c.requires.0, c.loop-v.invariant.1)
-
 pub loop-v-smaller : goal.loop-v-smaller
 loop-v-smaller c =
     fewer_outside _ _ _ c.equal.ensures
@@ -34,12 +31,9 @@ loop-v-preserved c = (
   c.round-next.ensures.1,
 )
 
-pub store_eight-requires : goal.store_eight-requires
-store_eight-requires c = omega arith
-
 pub returns : goal.returns
 returns c =
     λ u x.
-    ap (λ (w : List ℕ). member w 0) (words_stored _ known_at 8 _ _ (omega arith) c.loop-v.invariant.1 c.store_eight.ensures)
+    ap (λ (w : List ℕ). member w 0) (words_stored _ known_at 8 _ _ (omega arith) c.loop-v.invariant.1 c.store.ensures)
     ∙ rounds_fruitful x _ (c.loop-v.invariant.0 u x)
     (sym (c.round-next.ensures.0 u x) ∙ ap (λ (w : List ℕ). member w 0) (sym (c.equal.ensures.same c.if-equal.true)))

@@ -1,5 +1,5 @@
 -- `new_names` meets its contract. The loop's invariant: of the names before `i`, those that are not among the old stand there.
-use Prim.Native.Nat.{◌-◌, ◌≤◌}
+use Prim.Native.Nat.{◌≤◌}
 use lib.ListN.{take}
 use Rattle.grammar.specs.Table.{Table}
 use Rattle.reader.specs.TableIndex.{Indexes}
@@ -8,9 +8,5 @@ use Rattle.union.proofs.labels.new_names.Given as goal
 
 abbrev pub invariant-loop-i : goal.invariant-loop-i
 invariant-loop-i l =
-    (l.i ≤ l.count)
-    × (l.fresh.count ≤ l.i)
+    (l.fresh.count ≤ l.i)
     × ((g h : Table) → Indexes l.old l.olds g → Indexes l.add l.adds h → NamesHeld l.add l.fresh (new_names g.labels (take l.i h.labels)))
-
-abbrev pub decreases-loop-i : goal.decreases-loop-i
-decreases-loop-i l = l.count - l.i

@@ -5,55 +5,57 @@ use Rattle.reader.proofs.TableIndexLaws.{label_at}
 use Rattle.union.proofs.UnitedLabelsLaws.{label_old, label_new, label_below}
 use Rattle.union.proofs.labels.united_label.Goals as goal
 
-pub label_from-from-requires : goal.label_from-from-requires
-label_from-from-requires c = omega arith
+pub slice_bounds-name-count : goal.slice_bounds-name-count
+slice_bounds-name-count c =
+    let at = (label_at c.requires.0.so.addition.indexes c.args.label c.requires.1).2.inside in
+    omega (arith, c.label_from.ensures, c.label_to.ensures)
 
-pub label_to-to-requires : goal.label_to-to-requires
-label_to-to-requires c = omega arith
+pub slice_bounds-name-start : goal.slice_bounds-name-start
+slice_bounds-name-start c =
+    let at = (label_at c.requires.0.so.addition.indexes c.args.label c.requires.1).2.inside in
+    omega (arith, c.label_from.ensures, c.label_to.ensures)
 
-pub slice_bounds-name_place-count : goal.slice_bounds-name_place-count
-slice_bounds-name_place-count c =
-    let at = (label_at c.requires.0.so.addition.indexes c.args.label c.requires.1).2.inside.order in omega (arith, c.label_from-from.ensures, c.label_to-to.ensures)
-
-pub slice_bounds-name_place-start : goal.slice_bounds-name_place-start
-slice_bounds-name_place-start c =
-    let at = (label_at c.requires.0.so.addition.indexes c.args.label c.requires.1).2.inside.order in omega (arith, c.label_from-from.ensures, c.label_to-to.ensures)
-
-pub slice_bounds-name_place-end : goal.slice_bounds-name_place-end
-slice_bounds-name_place-end c =
-    let at = (label_at c.requires.0.so.addition.indexes c.args.label c.requires.1).2.inside.within in omega (arith, c.label_from-from.ensures, c.label_to-to.ensures)
-
-pub name_place-p-requires : goal.name_place-p-requires
-name_place-p-requires c = record { list = _; at = index_names c.requires.0.so.old_table c.label_count-count.ensures }
+pub slice_bounds-name-end : goal.slice_bounds-name-end
+slice_bounds-name-end c =
+    let at = (label_at c.requires.0.so.addition.indexes c.args.label c.requires.1).2.inside in
+    omega (arith, c.label_from.ensures, c.label_to.ensures)
 
 pub returns-then-p-count : goal.returns-then-p-count
-returns-then-p-count c =
-    let below = c.if-p-count.true in
-    (λ g h a. label_old a.old_table a.addition.indexes c.args.label c.requires.1 _ _ _ _ c.label_from-from.ensures c.label_to-to.ensures c.label_count-count.ensures (c.name_place-p.ensures _ (index_names a.old_table c.label_count-count.ensures)) below, omega arith)
-
-pub slice_bounds-name_place-count-2 : goal.slice_bounds-name_place-count-2
-slice_bounds-name_place-count-2 c =
-    let at = (label_at c.requires.0.so.addition.indexes c.args.label c.requires.1).2.inside.order in omega (arith, c.label_from-from.ensures, c.label_to-to.ensures)
-
-pub slice_bounds-name_place-start-2 : goal.slice_bounds-name_place-start-2
-slice_bounds-name_place-start-2 c =
-    let at = (label_at c.requires.0.so.addition.indexes c.args.label c.requires.1).2.inside.order in omega (arith, c.label_from-from.ensures, c.label_to-to.ensures)
-
-pub slice_bounds-name_place-end-3 : goal.slice_bounds-name_place-end-3
-slice_bounds-name_place-end-3 c =
-    let at = (label_at c.requires.0.so.addition.indexes c.args.label c.requires.1).2.inside.within in omega (arith, c.label_from-from.ensures, c.label_to-to.ensures)
-
-pub name_place-q-requires : goal.name_place-q-requires
-name_place-q-requires c = record { list = _; at = c.requires.0.so.new_names }
+returns-then-p-count c = (
+  λ g h a.
+      label_old a.old_table a.addition.indexes c.args.label c.requires.1 _ _ _ _ c.label_from.ensures c.label_to.ensures c.label_count-count.ensures
+      (c.name_place-p.ensures _ (index_names a.old_table c.label_count-count.ensures))
+      c.if-p-count.true,
+  omega arith,
+)
 
 pub overflow_add-result : goal.overflow_add-result
 overflow_add-result c =
-    let below = label_below c.requires.0.so.old_table c.requires.0.so.addition.indexes c.args.label c.requires.1 _ _ _ _ c.label_from-from.ensures c.label_to-to.ensures c.label_count-count.ensures (c.name_place-p.ensures _ (index_names c.requires.0.so.old_table c.label_count-count.ensures)) _ c.if-p-count.false (c.name_place-q.ensures _ c.requires.0.so.new_names) _ c.requires.0.so.new_names in
+    let a = c.requires.0.so in
+    let below =
+    label_below a.old_table a.addition.indexes c.args.label c.requires.1 _ _ _ _ c.label_from.ensures c.label_to.ensures
+    c.label_count-count.ensures
+    (c.name_place-p.ensures _ (index_names a.old_table c.label_count-count.ensures)) _
+    c.if-p-count.false
+    (c.name_place.ensures _ a.new_names) _
+    a.new_names in
     omega arith
 
 pub returns : goal.returns
 returns c =
-    let below = label_below c.requires.0.so.old_table c.requires.0.so.addition.indexes c.args.label c.requires.1 _ _ _ _ c.label_from-from.ensures c.label_to-to.ensures c.label_count-count.ensures (c.name_place-p.ensures _ (index_names c.requires.0.so.old_table c.label_count-count.ensures)) _ c.if-p-count.false (c.name_place-q.ensures _ c.requires.0.so.new_names) _ c.requires.0.so.new_names in (
-      λ g h a. label_new a.old_table a.addition.indexes c.args.label c.requires.1 _ _ _ _ c.label_from-from.ensures c.label_to-to.ensures c.label_count-count.ensures (c.name_place-p.ensures _ (index_names a.old_table c.label_count-count.ensures)) _ c.if-p-count.false (c.name_place-q.ensures _ a.new_names),
+    let a = c.requires.0.so in
+    let below =
+    label_below a.old_table a.addition.indexes c.args.label c.requires.1 _ _ _ _ c.label_from.ensures c.label_to.ensures
+    c.label_count-count.ensures
+    (c.name_place-p.ensures _ (index_names a.old_table c.label_count-count.ensures)) _
+    c.if-p-count.false
+    (c.name_place.ensures _ a.new_names) _
+    a.new_names in (
+      λ g h a.
+          label_new a.old_table a.addition.indexes c.args.label c.requires.1 _ _ _ _ c.label_from.ensures c.label_to.ensures
+          c.label_count-count.ensures
+          (c.name_place-p.ensures _ (index_names a.old_table c.label_count-count.ensures)) _
+          c.if-p-count.false
+          (c.name_place.ensures _ a.new_names),
       omega arith,
     )

@@ -8,7 +8,9 @@ use Rattle.reader.specs.ContentAt.{ContentsAt}
 use Rattle.reader.proofs.ContentAtLaws.{content_inside, type_there, count_there, operands_there, operand_there}
 use Rattle.union.proofs.MetLaws.{none_finds, empty_finds, type_finds, sequence_finds, choice_finds, one_or_more_finds, around_finds, no_row_finds, row_finds, first_asks, others_ask}
 use mathlib.Core.Path.{◌≡◌}
+use mathlib.Core.Bool.{◌&&◌, ◌||◌}
 use Rattle.union.proofs.met.+met_met_row.Goals as goal
+use Rattle.union.proofs.met.+met_met_row.Goals.{met_row-then-first, met_row-else-first, met_row-then-first-2, met_row-else-first-2}
 
 pub met-bounds-content-at : goal.met-bounds-content-at
 met-bounds-content-at t c = (content_inside large _ _ c.requires.0.there).0
@@ -31,46 +33,17 @@ met_row-met_row-others-requires t c =
     let o = others_ask _ _ _ _ _ _ _ _ _ c.requires.0 c.if-n-eq0.false c.met-first.ensures c.met-first.auto.list in
     (omega arith, (o.1, c.met-first.ensures.known))
 
-pub met-overflow_add-at-in-1 : goal.met-overflow_add-at-in-1
-met-overflow_add-at-in-1 t c =
-    let i = (content_inside large _ _ c.requires.0.there).0 in
-    omega arith
-
-pub met-overflow_add-at-in-2 : goal.met-overflow_add-at-in-2
-met-overflow_add-at-in-2 t c =
-    let i = (content_inside large _ _ c.requires.0.there).0 in
-    omega arith
-
-pub met_row-returns : goal.met_row-returns
-met_row-returns t c =
-    row_finds _ _ _ _ c.args.list.now c.args.count _ _ _ _ _ _ _ c.if-n-eq0.false c.met-first.ensures c.met_row-others.ensures c.both.ensures c.either.ensures
-
 pub met-bounds-content-at-in-2 : goal.met-bounds-content-at-in-2
-met-bounds-content-at-in-2 t c = (type_there large _ _ c.requires.0.there (sym c.wide-operator.ensures.value ∙ c.in-2.is)).0
-
-pub met-overflow_add-at-in-2-2 : goal.met-overflow_add-at-in-2-2
-met-overflow_add-at-in-2-2 t c =
-    let i = (type_there large _ _ c.requires.0.there (sym c.wide-operator.ensures.value ∙ c.in-2.is)).0 in
-    omega arith
+met-bounds-content-at-in-2 t c = (type_there large _ _ c.requires.0.there (sym c.from-operator.ensures ∙ c.in-2.is)).0
 
 pub met-met_type-requires : goal.met-met_type-requires
 unfolding large
 met-met_type-requires t c =
-    let i = (type_there large _ _ c.requires.0.there (sym c.wide-operator.ensures.value ∙ c.in-2.is)).1 in
+    let i = (type_there large _ _ c.requires.0.there (sym c.from-operator.ensures ∙ c.in-2.is)).1 in
     (omega arith, c.requires.0.lists, c.requires.0.once, c.requires.1)
-
-pub met-overflow_add-at-in-3 : goal.met-overflow_add-at-in-3
-met-overflow_add-at-in-3 t c =
-    let i = (content_inside large _ _ c.requires.0.there).0 in
-    omega arith
 
 pub met-bounds-content-at-in-3 : goal.met-bounds-content-at-in-3
 met-bounds-content-at-in-3 t c = count_there large _ _ c.requires.0.there (omega arith) (omega arith)
-
-pub met-overflow_add-at-in-3-2 : goal.met-overflow_add-at-in-3-2
-met-overflow_add-at-in-3-2 t c =
-    let i = (content_inside large _ _ c.requires.0.there).0 in
-    omega arith
 
 pub met-met_row-row-requires : goal.met-met_row-row-requires
 met-met_row-row-requires t c =
@@ -80,7 +53,7 @@ met-met_row-row-requires t c =
       omega arith,
       (
         record {
-          there = subst (ContentsAt large s (c.args.at + 2)) (sym c.wide-n.ensures.value) row;
+          there = subst (ContentsAt large s (c.args.at + 2)) (sym c.from-n.ensures) row;
           lists = c.requires.0.lists;
           once = c.requires.0.once;
         },
@@ -88,18 +61,8 @@ met-met_row-row-requires t c =
       ),
     )
 
-pub met-overflow_add-at-in-4 : goal.met-overflow_add-at-in-4
-met-overflow_add-at-in-4 t c =
-    let i = (content_inside large _ _ c.requires.0.there).0 in
-    omega arith
-
 pub met-bounds-content-at-in-4 : goal.met-bounds-content-at-in-4
 met-bounds-content-at-in-4 t c = count_there large _ _ c.requires.0.there (omega arith) (omega arith)
-
-pub met-overflow_add-at-in-4-2 : goal.met-overflow_add-at-in-4-2
-met-overflow_add-at-in-4-2 t c =
-    let i = (content_inside large _ _ c.requires.0.there).0 in
-    omega arith
 
 pub met-met_row-row-requires-in-4 : goal.met-met_row-row-requires-in-4
 met-met_row-row-requires-in-4 t c =
@@ -109,18 +72,13 @@ met-met_row-row-requires-in-4 t c =
       omega arith,
       (
         record {
-          there = subst (ContentsAt large s (c.args.at + 2)) (sym c.wide-n-in-4.ensures.value) row;
+          there = subst (ContentsAt large s (c.args.at + 2)) (sym c.from-n-in-4.ensures) row;
           lists = c.requires.0.lists;
           once = c.requires.0.once;
         },
         c.requires.1,
       ),
     )
-
-pub met-overflow_add-at-in-6 : goal.met-overflow_add-at-in-6
-met-overflow_add-at-in-6 t c =
-    let i = (content_inside large _ _ c.requires.0.there).0 in
-    omega arith
 
 pub met-met-requires : goal.met-met-requires
 met-met-requires t c =
@@ -135,11 +93,6 @@ met-met-requires t c =
         c.requires.1,
       ),
     )
-
-pub met-overflow_add-at-in_default : goal.met-overflow_add-at-in_default
-met-overflow_add-at-in_default t c =
-    let i = (content_inside large _ _ c.requires.0.there).0 in
-    omega arith
 
 pub met-met-operand-requires : goal.met-met-operand-requires
 met-met-operand-requires t c =
@@ -157,32 +110,46 @@ met-met-operand-requires t c =
 
 pub met-returns-in-0 : goal.met-returns-in-0
 met-returns-in-0 t c =
-    rw c.met_none.ensures (none_finds _ _ _ _ _ _ _ c.requires.0 c.requires.1 (sym c.wide-operator.ensures.value ∙ c.in-0.is))
+    rw c.met_none.ensures (none_finds _ _ _ _ _ _ _ c.requires.0 c.requires.1 (sym c.from-operator.ensures ∙ c.in-0.is))
 
 pub met-returns-in-1 : goal.met-returns-in-1
 met-returns-in-1 t c =
-    rw c.met_none-in-1.ensures (empty_finds _ _ _ _ _ _ _ c.requires.0 c.requires.1 (sym c.wide-operator.ensures.value ∙ c.in-1.is))
+    rw c.met_none-in-1.ensures (empty_finds _ _ _ _ _ _ _ c.requires.0 c.requires.1 (sym c.from-operator.ensures ∙ c.in-1.is))
 
 pub met-returns-in-2 : goal.met-returns-in-2
 met-returns-in-2 t c =
-    type_finds _ _ _ _ _ _ _ _ _ c.requires.0 (sym c.wide-operator.ensures.value ∙ c.in-2.is) c.wide-k.ensures.value c.met_type.ensures
+    type_finds _ _ _ _ _ _ _ _ _ c.requires.0 (sym c.from-operator.ensures ∙ c.in-2.is) c.from-k.ensures c.met_type.ensures
 
 pub met-returns-in-3 : goal.met-returns-in-3
 met-returns-in-3 t c =
-    let byte = sym c.wide-operator.ensures.value ∙ c.in-3.is in
+    let byte = sym c.from-operator.ensures ∙ c.in-3.is in
     rw c.met_sequence.ensures
-    (sequence_finds _ _ _ _ _ _ _ _ _ c.requires.0 c.wide-n.ensures.value (c.met_row-row.ensures) _ c.requires.1 byte (c.met_row-row.auto.list))
+    (sequence_finds _ _ _ _ _ _ _ _ _ c.requires.0 c.from-n.ensures (c.met_row-row.ensures) _ c.requires.1 byte (c.met_row-row.auto.list))
 
 pub met-returns-in-4 : goal.met-returns-in-4
 met-returns-in-4 t c =
-    choice_finds _ _ _ _ _ _ _ _ _ c.requires.0 c.wide-n-in-4.ensures.value c.met_row-row-in-4.ensures (sym c.wide-operator.ensures.value ∙ c.in-4.is)
+    choice_finds _ _ _ _ _ _ _ _ _ c.requires.0 c.from-n-in-4.ensures c.met_row-row-in-4.ensures (sym c.from-operator.ensures ∙ c.in-4.is)
 
 pub met-returns-in-6 : goal.met-returns-in-6
 met-returns-in-6 t c =
-    one_or_more_finds _ _ _ _ _ _ _ _ c.requires.0 c.met.ensures (sym c.wide-operator.ensures.value ∙ c.in-6.is)
+    one_or_more_finds _ _ _ _ _ _ _ _ c.requires.0 c.met.ensures (sym c.from-operator.ensures ∙ c.in-6.is)
 
 pub met-returns-in_default : goal.met-returns-in_default
 met-returns-in_default t c =
-    let e = c.wide-operator.ensures.value in
-    let n6 : c.wide-operator.result ≡ 6 → ⊥ = λ q. omega arith in
+    let e = c.from-operator.ensures in
+    let n6 : c.from-operator.result ≡ 6 → ⊥ = λ q. omega arith in
     around_finds _ _ _ _ _ _ _ _ c.requires.0 c.met-operand.ensures (omega arith) (λ q. n6 (e ∙ q))
+
+pub met_row-returns : goal.met_row-returns
+met_row-returns t c =
+    let all : c.if-first.result ≡ (c.met-first.result.has && c.met_row-others.result.all) =
+    elim c.if-first.branch [
+      | met_row-then-first w ↦ rw w.if-first.true w.result-is
+      | met_row-else-first w ↦ rw w.if-first.false (w.result-is ∙ w.if-first.false)
+    ] in
+    let one : c.if-first-2.result ≡ (c.met-first.result.has || c.met_row-others.result.one) =
+    elim c.if-first-2.branch [
+      | met_row-then-first-2 w ↦ rw w.if-first-2.true (w.result-is ∙ w.if-first-2.true)
+      | met_row-else-first-2 w ↦ rw w.if-first-2.false w.result-is
+    ] in
+    row_finds _ _ _ _ c.args.list.now c.args.count _ _ _ _ _ _ _ c.if-n-eq0.false c.met-first.ensures c.met_row-others.ensures all one

@@ -1,46 +1,29 @@
--- `append_part` meets its contract. The loop's invariant: the numbers of the part before `i` are added.
-use Prim.Native.Nat.{◌-◌}
+-- `append_part` meets its contract.
 use native.Mathlib.Omega.{arith}
-use mathlib.Core.Path.{◌≡◌, refl, sym, ◌∙◌, ap}
+use Prim.Native.Nat.{ℕ, ◌-◌, ◌≤◌}
+use mathlib.Core.List.{Memᴰ, List}
+use mathlib.Core.Path.{sym, subst}
 use lib.ListN.{take, drop}
-use Prim.Native.Nat.{ℕ}
-use Rattle.union.proofs.OnceLaws.{adds_none, adds_same, adds_join, adds_once, part_more, part_below}
+use lib.Seq.{take-take}
+use Rattle.std.proofs.lemmas.List.{take_more}
+use Rattle.union.proofs.OnceLaws.{adds_same, adds_join, adds_once, part_below}
 use Rattle.union.proofs.met.append_part.Goals as goal
 
-pub loop-i-init : goal.loop-i-init
-loop-i-init c =
-    let first = c.args.first in
-    let e : 0 ≡ first - first = omega arith in (
-      omega arith,
-      c.requires.1.order,
-      adds_same (ap (λ (n : ℕ). take n (drop first c.args.numbers.now)) e) (adds_none 256 _ _ c.requires.0),
-      refl,
-    )
-
-pub bounds-numbers-i : goal.bounds-numbers-i
-bounds-numbers-i c = omega arith
-
-pub append-longer-requires : goal.append-longer-requires
-append-longer-requires c =
-    let i = c.loop-i.i in
+pub append-more-requires : goal.append-more-requires
+append-more-requires c =
+    let i = c.loop-number.number-index in
+    let n = c.args.end - c.args.first in
+    let numbers = drop c.args.first c.args.numbers.now in
+    let small : i ≤ n = omega (arith, c.requires.1.order, c.requires.1.inside) in
     adds_once 256 _ _ c.requires.0 _ _ _
-    (part_below c.args.numbers.now 256 c.requires.1.below c.args.first (i - c.args.first))
-    c.loop-i.invariant.2
-    c.loop-i.invariant.3
+    (λ p m.
+    part_below c.args.numbers.now 256 c.requires.1.below c.args.first i p
+    (subst (λ (l : List ℕ). Memᴰ p l) (take-take i n numbers small) m))
+    c.loop-number.invariant
+    c.loop-number.auto.list
 
-pub overflow_add-i : goal.overflow_add-i
-overflow_add-i c = omega arith
-
-pub loop-i-preserved : goal.loop-i-preserved
-loop-i-preserved c =
-    let more = part_more c.args.numbers.now c.args.first c.loop-i.i c.loop-i.invariant.0 (omega arith) in (
-      omega arith,
-      omega arith,
-      adds_same (sym more) (adds_join _ _ _ _ _ _ _ c.loop-i.invariant.2 c.append-longer.ensures),
-      c.append-longer.auto.list ∙ c.loop-i.invariant.3,
-    )
-
-pub returns : goal.returns
-returns c =
-    let e : c.loop-i.i ≡ c.args.end = omega arith in
-    adds_same (ap (λ (n : ℕ). take (n - c.args.first) (drop c.args.first c.args.numbers.now)) e) c.loop-i.invariant.2
+pub loop-number-preserved : goal.loop-number-preserved
+loop-number-preserved c =
+    let part = take (c.args.end - c.args.first) (drop c.args.first c.args.numbers.now) in
+    adds_same (sym (take_more part c.loop-number.number-index 0 c.loop-number-test.true))
+    (adds_join _ _ _ _ _ _ _ c.loop-number.invariant c.append-more.ensures)

@@ -1,5 +1,5 @@
 -- `new_rules` meets its contract. The loop's invariant: the addition's rules before `i` are put down after the old ones.
-use Prim.Native.Nat.{◌+◌, ◌-◌, ◌≤◌}
+use Prim.Native.Nat.{◌+◌, ◌≤◌}
 use mathlib.Core.List.{map, ◌++◌}
 use mathlib.Core.Path.{◌≡◌}
 use lib.ListN.{take}
@@ -11,11 +11,7 @@ use Rattle.union.proofs.united.new_rules.Given as goal
 
 abbrev pub invariant-loop-i : goal.invariant-loop-i
 invariant-loop-i l =
-    (l.i ≤ l.rules)
-    × (l.all.rules ≡ l.all.old_rules + l.i)
+    (l.all.rules ≡ l.all.old_rules + l.i)
     × (l.all.old_rules ≤ 128)
     × ((g h : Table) → AddingTo l.old l.olds l.add l.adds l.fresh g h → Views l.old l.add l.initial.all (rules_only g.rules)
     → Views l.old l.add l.all (rules_only (g.rules ++ map (added large g h) (take l.i h.rules))))
-
-abbrev pub decreases-loop-i : goal.decreases-loop-i
-decreases-loop-i l = l.rules - l.i

@@ -1,19 +1,6 @@
 -- `unite_tables` meets its contract.
-use native.Mathlib.Omega.{arith}
 use Rattle.union.proofs.UnionLaws.{united_labels_lem}
 use Rattle.union.proofs.united.unite_tables.Goals as goal
-
-pub new_rules-all-requires : goal.new_rules-all-requires
-new_rules-all-requires c =
-    let y = c.requires.1.held in (
-      record {
-        first = c.requires.0.table;
-        second = c.requires.1.table;
-        so = record { old_table = c.requires.0.held.indexes; addition = y; new_names = c.new_names-fresh.ensures _ _ c.requires.0.held.indexes y.indexes };
-      },
-      omega arith,
-      omega arith,
-    )
 
 pub returns : goal.returns
 returns c =

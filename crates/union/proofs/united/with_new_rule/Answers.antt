@@ -8,15 +8,18 @@ use Rattle.union.proofs.united.with_new_rule.Goals as goal
 
 pub united_label-label-requires : goal.united_label-label-requires
 united_label-label-requires c =
-    let below = (rule_found_at c.requires.0.so.addition.indexes c.requires.0.so.addition.within c.args.i c.requires.2).label_below in (c.requires.0, omega (arith, c.rule_label.ensures))
+    let below = (rule_found_at c.requires.0.so.addition.indexes c.requires.0.so.addition.within c.args.i c.requires.2).label_below in
+    (c.requires.0, omega (arith, c.rule_label.ensures))
 
 pub overflow_add-rule_type : goal.overflow_add-rule_type
 overflow_add-rule_type c =
-    let below = (rule_found_at c.requires.0.so.addition.indexes c.requires.0.so.addition.within c.args.i c.requires.2).type_below in omega (arith, c.rule_type.ensures)
+    let below = (rule_found_at c.requires.0.so.addition.indexes c.requires.0.so.addition.within c.args.i c.requires.2).type_below in
+    omega (arith, c.rule_type.ensures)
 
 pub overflow_cast-rule_type : goal.overflow_cast-rule_type
 overflow_cast-rule_type c =
-    let below = (rule_found_at c.requires.0.so.addition.indexes c.requires.0.so.addition.within c.args.i c.requires.2).type_below in omega (arith, c.rule_type.ensures)
+    let below = (rule_found_at c.requires.0.so.addition.indexes c.requires.0.so.addition.within c.args.i c.requires.2).type_below in
+    omega (arith, c.rule_type.ensures)
 
 pub returns : goal.returns
 returns c = (

@@ -7,11 +7,13 @@ use Rattle.union.proofs.united.with_old_rule.Goals as goal
 
 pub overflow_cast-rule_type : goal.overflow_cast-rule_type
 overflow_cast-rule_type c =
-    let below = (rule_found_at c.requires.0.1.held.indexes c.requires.0.1.held.within c.args.i c.requires.2).type_below in omega (arith, c.rule_type.ensures)
+    let below = (rule_found_at c.requires.0.1.held.indexes c.requires.0.1.held.within c.args.i c.requires.2).type_below in
+    omega (arith, c.rule_type.ensures)
 
 pub overflow_cast-rule_label : goal.overflow_cast-rule_label
 overflow_cast-rule_label c =
-    let below = (rule_found_at c.requires.0.1.held.indexes c.requires.0.1.held.within c.args.i c.requires.2).label_below in omega (arith, c.rule_label.ensures)
+    let below = (rule_found_at c.requires.0.1.held.indexes c.requires.0.1.held.within c.args.i c.requires.2).label_below in
+    omega (arith, c.rule_label.ensures)
 
 pub returns : goal.returns
 returns c = (

@@ -1,8 +1,9 @@
--- `read_and_test_single_type` meets its contract: the refusal of the table, else the test.
 use Rattle.grammar.specs.Kinds.{single_type}
 use Rattle.theory.proofs.Bytes.ClassLaws.{all_classed}
 use Rattle.basis.proofs.LoadedClasses.{does_load, does_not_load}
 use native.Mathlib.Omega.{arith}
+use mathlib.Core.Path.{◌∙◌}
+use Rattle.reader.proofs.AnswerLaws.{handed_on}
 use lib.Seq.{length-take-le}
 use Rattle.grammar.specs.LimitSets.{limits_of}
 use Rattle.grammar.specs.KindTests.{is_of_kind}
@@ -15,21 +16,21 @@ pub returns-then-not-classes_load : goal.returns-then-not-classes_load
 returns-then-not-classes_load c =
     laws.kind_unloaded (limits_of c.args.limits) c.args.classes.now single_type c.args.table.now (does_not_load c.args.classes.now c.classes_load.ensures c.if-not-classes_load.true-raw)
 
-pub read_table-readable-requires : goal.read_table-readable-requires
-read_table-readable-requires c =
-    let all = all_classed c.args.classes.now (does_load c.args.classes.now c.classes_load.ensures c.if-not-classes_load.false-raw) in record { in_bounds = omega arith; within = c.requires.within }
+pub read_table-requires : goal.read_table-requires
+read_table-requires c =
+    let all = all_classed c.args.classes.now (does_load c.args.classes.now c.classes_load.ensures c.if-not-classes_load.false-raw) in record { in_bounds = omega arith }
 
-pub returns-in-Refused : goal.returns-in-Refused
-returns-in-Refused c =
-    laws.kind_refuses (limits_of c.args.limits) c.args.classes.now single_type c.args.table.now (does_load c.args.classes.now c.classes_load.ensures c.if-not-classes_load.false-raw) c.read_table-readable.result _ c.read_table-readable.ensures _ c.in-Refused.is
+pub returns-in_err-read_table : goal.returns-in_err-read_table
+returns-in_err-read_table c =
+    handed_on _ c.from_residual.ensures ∙ laws.kind_refuses (limits_of c.args.limits) c.args.classes.now single_type c.args.table.now (does_load c.args.classes.now c.classes_load.ensures c.if-not-classes_load.false-raw) c.read_table.result _ c.read_table.ensures _ c.in_err-read_table.was
 
-pub single_type_table-requires : goal.single_type_table-requires
-single_type_table-requires c =
+pub single_type_table-single-requires : goal.single_type_table-single-requires
+single_type_table-single-requires c =
     let room = length-take-le 8 c.args.words.now c.requires.in_bounds in
-    (some_roomier (within_large c.requires.within) (table_found (limits_of c.args.limits) c.args.classes.now c.args.table.now c.read_table-readable.result _ c.read_table-readable.ensures (does_load c.args.classes.now c.classes_load.ensures c.if-not-classes_load.false-raw) c.in_default.is).some, omega arith)
+    (some_roomier (within_large c.args.limits) (table_found (limits_of c.args.limits) c.args.classes.now c.args.table.now c.read_table.result _ c.read_table.ensures (does_load c.args.classes.now c.classes_load.ensures c.if-not-classes_load.false-raw) c.in_ok-read_table.was).some, omega arith)
 
 pub returns : goal.returns
 unfolding is_of_kind
 returns c =
-    laws.kind_decided (limits_of c.args.limits) c.args.classes.now single_type c.args.table.now (does_load c.args.classes.now c.classes_load.ensures c.if-not-classes_load.false-raw) c.read_table-readable.result _ c.read_table-readable.ensures (within_large c.requires.within) c.in_default.is c.yes_or_no.result c.single_type_table.result c.yes_or_no.ensures
-    (λ g x. c.single_type_table.ensures g x.indexes)
+    laws.kind_decided (limits_of c.args.limits) c.args.classes.now single_type c.args.table.now (does_load c.args.classes.now c.classes_load.ensures c.if-not-classes_load.false-raw) c.read_table.result _ c.read_table.ensures (within_large c.args.limits) c.in_ok-read_table.was c.single_type_table-single.result
+    (λ g x. c.single_type_table-single.ensures g x.indexes)

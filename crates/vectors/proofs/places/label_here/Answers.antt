@@ -1,23 +1,29 @@
 -- `places::label_here` meets its contract.
+use Prim.Native.Nat.{ℕ, ◌+◌, ◌-◌}
 use native.Mathlib.Omega.{arith}
-use mathlib.Core.Path.{refl, sym, ◌∙◌}
-use Rattle.theory.proofs.Lists.BoolLaws.{not_both}
+use mathlib.Core.List.{List}
+use mathlib.Core.Path.{◌≡◌, sym, ◌∙◌, ap}
+use lib.ListN.{length, take, drop, length-drop}
+use lib.Seq.{drop-drop}
+use Rattle.std.proofs.lemmas.List.{take_rest}
+use Rattle.grammar.specs.Names.{same_name}
 use Rattle.vectors.proofs.places.label_here.Goals as goal
 
-pub returns-then-room-lt3 : goal.returns-then-room-lt3
-returns-then-room-lt3 c = λ e. absurd (not_both e refl)
+-- what stands behind the first three bytes of a field
+behind : (table rest : List ℕ) (at : ℕ) → rest ≡ drop 3 (take (length table - at) (drop at table)) → rest ≡ drop (at + 3) table
+behind table rest at e = e ∙ ap (drop 3) (take_rest table at) ∙ drop-drop 3 at table
 
-pub returns-then-room-name : goal.returns-then-room-name
-returns-then-room-name c = λ e. absurd (not_both e refl)
-
-pub returns-then-table-at-ne16 : goal.returns-then-table-at-ne16
-returns-then-table-at-ne16 c = λ e. absurd (not_both e refl)
-
-pub returns-then-table-at-ne0 : goal.returns-then-table-at-ne0
-returns-then-table-at-ne0 c = λ e. absurd (not_both e refl)
-
-pub returns-then-wide-name : goal.returns-then-wide-name
-returns-then-wide-name c = λ e. absurd (not_both e refl)
-
-pub returns : goal.returns
-returns c = λ e. record { within = omega arith; same = sym c.same_name.ensures ∙ e }
+pub returns-then-name-rest : goal.returns-then-name-rest
+returns-then-name-rest c =
+    let table = c.args.table.now in
+    let name = c.args.name.now in
+    let at = c.args.at in
+    let field = c.in-Some-eq16-default.ensures.cases in
+    let rest_is = behind table c.in-Some-eq16-default.rest.now at field.1 in
+    let size = field.2 ∙ ap length (take_rest table at) ∙ length-drop at table in
+    let n : at + 3 + length name - (at + 3) ≡ length name = omega arith in
+    λ e.
+    record {
+      within = omega arith;
+      same = ap (λ (l : List ℕ). same_name l name) (ap (λ (k : ℕ). take k (drop (at + 3) table)) n ∙ ap (take (length name)) (sym rest_is)) ∙ sym c.same_name.ensures ∙ e;
+    }

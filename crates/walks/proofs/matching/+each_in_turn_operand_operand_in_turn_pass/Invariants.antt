@@ -11,27 +11,21 @@ use Rattle.walks.specs.TypeSets.{set_at}
 use Rattle.walks.specs.WalkAt.{walk_in_turn_at, walk_each_at}
 use Rattle.walks.proofs.matching.+each_in_turn_operand_operand_in_turn_pass.Given as goal
 
-abbrev pub invariant-each-loop-left : goal.invariant-each-loop-left
-invariant-each-loop-left l =
+abbrev pub invariant-each-loop-done : goal.invariant-each-loop-done
+invariant-each-loop-done l =
     (l.from ≤ l.at)
     × (length l.marks ≡ length l.initial.marks)
-    × (ContentsAt large l.content l.at l.left)
-    × (walk_each_at l.content l.at l.left l.marks l.incoming (set_at l.words l.base) l.nullable l.ends
+    × (ContentsAt large l.content l.at (l.count - l._done))
+    × (walk_each_at l.content l.at (l.count - l._done) l.marks l.incoming (set_at l.words l.base) l.nullable l.ends
     ≡ walk_each_at l.content l.from l.count l.initial.marks l.incoming (set_at l.words l.base) false false)
 
-abbrev pub decreases-each-loop-left : goal.decreases-each-loop-left
-decreases-each-loop-left l = l.left
-
-abbrev pub invariant-in_turn-loop-left : goal.invariant-in_turn-loop-left
-invariant-in_turn-loop-left l =
+abbrev pub invariant-in_turn-loop-done : goal.invariant-in_turn-loop-done
+invariant-in_turn-loop-done l =
     (l.from ≤ l.at)
     × (length l.marks ≡ length l.initial.marks)
-    × (ContentsAt large l.content l.at l.left)
-    × (walk_in_turn_at l.content l.at l.left l.marks l.incoming (set_at l.words l.base) l.nullable l.ends
+    × (ContentsAt large l.content l.at (l.count - l._done))
+    × (walk_in_turn_at l.content l.at (l.count - l._done) l.marks l.incoming (set_at l.words l.base) l.nullable l.ends
     ≡ walk_in_turn_at l.content l.from l.count l.initial.marks l.begun (set_at l.words l.base) true false)
-
-abbrev pub decreases-in_turn-loop-left : goal.decreases-in_turn-loop-left
-decreases-in_turn-loop-left l = l.left
 
 abbrev pub decreases-each : goal.decreases-each
 decreases-each l = 4 * (length l.content.now - l.from) + 3

@@ -1,4 +1,3 @@
--- `matches` meets its contract: over marks of nothing, the walk for no child tells nullable, the walks of the children tell the answer.
 use Prim.Native.Nat.{ℕ}
 use mathlib.Core.Bool.{true, false}
 use mathlib.Core.List.{List}

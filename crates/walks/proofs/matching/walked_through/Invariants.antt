@@ -1,6 +1,6 @@
 -- `walked_through` meets its contract: the children from here on, walked over the marks of now, are all children walked over the marks of
 -- the beginning.
-use Prim.Native.Nat.{◌+◌, ◌*◌, ◌-◌, ◌≤◌}
+use Prim.Native.Nat.{◌+◌, ◌*◌, ◌-◌}
 use mathlib.Core.Bool.{true}
 use mathlib.Core.Path.{◌≡◌}
 use lib.Dec.{eqb}
@@ -11,9 +11,5 @@ use Rattle.walks.proofs.matching.walked_through.Given as goal
 
 abbrev pub invariant-loop-i : goal.invariant-loop-i
 invariant-loop-i l =
-    (l.i ≤ l.count)
-    × (length l.marks ≡ length l.initial.marks)
+    (length l.marks ≡ length l.initial.marks)
     × (walks_at l.content l.marks (eqb l.i 0) (tests_at l.words (l.top + 4 * l.i) (l.count - l.i)) ≡ walks_at l.content l.initial.marks true (tests_at l.words l.top l.count))
-
-abbrev pub decreases-loop-i : goal.decreases-loop-i
-decreases-loop-i l = l.count - l.i

@@ -1,7 +1,7 @@
 -- `calls::widen` meets its contract: too few words, or the words that are needed lent and then cleared, and what was made in a draft handed over.
 use Prim.Native.Nat.{◌-◌}
 use native.Mathlib.Omega.{arith}
-use mathlib.Core.Path.{◌∙◌}
+use mathlib.Core.Path.{◌∙◌, refl}
 use Rattle.results.specs.PlanKind.{kind_of}
 use Rattle.drafting.specs.Drafting.{widened_from}
 use Rattle.basis.proofs.WorkLaws.{lent_cleared}
@@ -25,4 +25,4 @@ returns c =
     widening_sized c.limits_of-limits.ensures.limits
     (laws.widening_answered c.limits_of-limits.result c.args.classes.now (kind_of c.args.kind) c.args.source c.args.old.now c.args.addition.now c.args.out.now c.args.work.now c.if-work-words.false c.deliver.result _ _
     (c.deliver.ensures (widened_from (limits_of c.limits_of-limits.result) c.args.classes.now c.args.source (kind_of c.args.kind) c.args.old.now c.args.addition.now) c.draft_widened-made.ensures)
-    (c.clear_work.ensures ∙ lent_cleared (limits_of c.limits_of-limits.result) c.args.work.now c.draft_widened-made.new.words (c.limits_of-limits.result.words - 0) (omega arith) c.if-work-words.false c.draft_widened-made.auto.words))
+    ((c.clear_work.ensures (limits_of c.limits_of-limits.result) refl) ∙ lent_cleared (limits_of c.limits_of-limits.result) c.args.work.now c.draft_widened-made.new.words (c.limits_of-limits.result.words - 0) (omega arith) c.if-work-words.false c.draft_widened-made.auto.words))

@@ -1,6 +1,0 @@
--- `has` reads the bit that membership names.
-use Rattle.sets.proofs.SetLaws.{has_first}
-use Rattle.sets.proofs.four.Set4.has.Goals as goal
-
-pub returns : goal.returns
-returns c = has_first c.args.self.words c.args.k

@@ -1,6 +1,0 @@
--- `with` stores the word with the number's bit.
-use Rattle.sets.proofs.SetLaws.{put_first}
-use Rattle.sets.proofs.four.Set4.with.Goals as goal
-
-pub returns : goal.returns
-returns c = put_first c.args.self.words c.args.k
