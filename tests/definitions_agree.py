@@ -29,7 +29,8 @@ use Rattle.grammar.specs.Limits.{small, standard, large}
 use Rattle.grammar.specs.Names.{ascii_classes}
 use Rattle.grammar.specs.Kinds.{local, single_type}
 use Rattle.std.specs.Prelude.{Ok, Err}
-use Rattle.grammar.specs.Calls.{table_reads, document_reads, label_name, table_lets_in, table_is_of_kind, table_pages, document_sample, widened}
+use Rattle.grammar.specs.Calls.{table_reads, document_reads, label_name, table_lets_in, table_is_of_kind}
+use Rattle.grammar.specs.Calls.{table_pages, document_sample, widened}
 use Rattle.grammar.specs.declared.Source.TheVariants.{Table as a_table, Document as a_document}
 use Rattle.grammar.specs.declared.Format.TheVariants.{DocumentFile, XmlText}
 use Rattle.grammar.specs.Answers.{number_after}
@@ -133,7 +134,7 @@ def main():
             (proofs / f"Cases{number}.antt").write_text(HEAD + "\n" + "\n".join(file))
         (proofs / "Lib.antt").write_text("".join(f"pub mod Cases{n}\n" for n in range(len(files))))
         run = subprocess.run(["rt", "check"], cwd=copy / "crates/grammar", capture_output=True, text=True)
-        refused = [line for line in (run.stdout + run.stderr).split("\n") if "error:" in line]
+        refused = [line for line in (run.stdout + run.stderr).split("\n") if " error:" in line]
         unfinished = [line for line in refused if "stopped at the step limit" in line]
         wrong = [line for line in refused if line not in unfinished]
         print("\n".join(line[:300] for line in wrong))

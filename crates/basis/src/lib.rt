@@ -5,6 +5,5 @@ pub mod ascii;
 pub mod classes;
 pub mod limits;
 pub mod names;
-pub mod numbers;
 pub mod refusals;
 pub mod work;

@@ -78,20 +78,20 @@ gathers_registered {d} {d'} {row} {next} {ds = ds} {r = r} g =
     record { gathers = gathers_in d d' row next ds r g.gathers; registered = g.noted }
 
 module _ {old add : List ℕ} {v : United} {results : ResultTypes} (q : Joining old add v results) where
-  pub maps_old : Maps results.types.words results.lists.old.from results.lists.old.numbers
+  pub maps_old : length results.types.words ≡ 8 → Maps results.types.words results.lists.old.from results.lists.old.numbers
   unfolding some_left
-  maps_old =
-      let l = q.words in
+  maps_old eight =
       record {
         words = omega arith;
         agree = λ k h. q.typed k (omega arith) ∙ ap (λ (l : List ℕ). some_left (λ j. l) k) (sym (q.lists.old k h));
       }
 
-  pub maps_added : Maps (take (8 - 4) (drop 4 results.types.words)) results.lists.addition.from results.lists.addition.numbers
+  pub maps_added : length results.types.words ≡ 8
+      → Maps (take (8 - 4) (drop 4 results.types.words)) results.lists.addition.from results.lists.addition.numbers
   unfolding some_left shifted large
-  maps_added =
+  maps_added eight =
       record {
-        words = part_long results.types.words q.words;
+        words = part_long results.types.words eight;
         agree =
             λ k h.
             added_member results.types.words k h
@@ -117,12 +117,13 @@ module _ {old add : List ℕ} {v : United} {results : ResultTypes} (q : Joining 
         pub old_part : SourceContent old from to rule.content
         old_part = source_as begins ends ((seen q.views i h).2.in_old is_old)
 
-        abbrev pub old_source : Source (take (to - from) (drop from old)) 0 results.types.words results.lists.old.from
-            results.lists.old.numbers draft row (length register)
-        old_source =
+        abbrev pub old_source : length results.types.words ≡ 8
+            → Source (take (to - from) (drop from old)) 0 results.types.words
+            results.lists.old.from results.lists.old.numbers draft row (length register)
+        old_source eight =
             record {
               there = record { content = rule.content; next = to - from; stands = old_part.stands; proper = old_part.proper };
-              maps = maps_old;
+              maps = maps_old eight;
               kept = k.kept;
               fits = k.fits;
               small = k.small;
@@ -153,9 +154,10 @@ module _ {old add : List ℕ} {v : United} {results : ResultTypes} (q : Joining 
         source_deep =
             subst (λ (d : ℕ). d ≤ nesting_limit) (ap nesting added_rule.same ∙ nesting_renamed (shifted large) added_rule.source) deep
 
-        abbrev pub added_source : Source (take (to - from) (drop from add)) 0 (take (8 - 4) (drop 4 results.types.words))
+        abbrev pub added_source : length results.types.words ≡ 8
+            → Source (take (to - from) (drop from add)) 0 (take (8 - 4) (drop 4 results.types.words))
             results.lists.addition.from results.lists.addition.numbers draft row (length register)
-        added_source =
+        added_source eight =
             record {
               there =
                   record {
@@ -164,7 +166,7 @@ module _ {old add : List ℕ} {v : United} {results : ResultTypes} (q : Joining 
                     stands = added_part.stands;
                     proper = added_part.proper;
                   };
-              maps = maps_added;
+              maps = maps_added eight;
               kept = k.kept;
               fits = k.fits;
               small = k.small;

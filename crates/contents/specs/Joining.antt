@@ -27,7 +27,6 @@ pub record Joining (old add : List ℕ) (v : United) (results : ResultTypes) : T
   pub shallow : Shallow table
   pub of : ℕ → List ℕ
   pub lists : ListsOf of results.lists
-  pub words : length results.types.words ≡ 8
   pub typed : (k : ℕ) → k < 256 → member results.types.words 0 k ≡ some_left of k
 
 -- some operands stand in the draft, registered, and there is room for what any content gives

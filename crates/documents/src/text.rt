@@ -25,7 +25,7 @@ pub enum Tag {
 fn is_white(b: u8) -> bool
     ensures { result ≡ is_white b }
 {
-    matches!(b, b' ' | b'\t' | b'\r' | b'\n')
+    b == b' ' || b == b'\t' || b == b'\r' || b == b'\n'
 }
 
 // White space, / or >.

@@ -12,7 +12,6 @@ ghost use Rattle.operands.specs.Notes.{Noted, type_words, Registered};
 ghost use Rattle.emitting.specs.Emitting.{RoomForMore, Source, Sources, Operands, Emits};
 
 use basis::limits::CONTENT;
-use basis::numbers::wide;
 use basis::work::clear;
 use grammar::TooLarge;
 use operands::drafts::{Gathering, OperandRow, finish, keep, settle};
@@ -68,7 +67,7 @@ fn gather_result(
         → GathersWith (Registered register.new) draft.old draft.new row next
         (gathered q.kept.list (type res ∷ [])) result }
 {
-    let number = wide(res);
+    let number = usize::from(res);
     let end = row.end;
     if has(register, 0, number) {
         return Ok(Gathering {
@@ -168,7 +167,7 @@ fn gather_sequence(
         → GathersWith (Noted notes.new) draft.old draft.new row q.there.next
         (gathered q.kept.list (alts (list_of_type from.now results.now) q.there.content)) result }
 {
-    let n = wide(content[at + 1]);
+    let n = usize::from(content[at + 1]);
     let asked = row_has(content, at + 2, n, types, 0);
     if asked.all {
         let end = row.end;
@@ -266,7 +265,7 @@ fn gather_one(
         → GathersWith (Noted notes.new) draft.old draft.new row q.there.next
         (gathered q.kept.list (alts (list_of_type from.now results.now) q.there.content)) result }
 {
-    if wide(content[at]) == SEQUENCE {
+    if usize::from(content[at]) == SEQUENCE {
         return gather_sequence(content, at, types, from, results, draft, row, notes);
     }
     gather_around(content, at, types, from, results, draft, row, notes)
@@ -294,8 +293,8 @@ fn gather_compound(
         q.there.next
         (gathered q.kept.list (alts (list_of_type from.now results.now) q.there.content)) result }
 {
-    if wide(content[at]) == CHOICE {
-        let n = wide(content[at + 1]);
+    if usize::from(content[at]) == CHOICE {
+        let n = usize::from(content[at + 1]);
         return gather_row(
             content,
             at + 2,
@@ -341,7 +340,7 @@ pub fn gather(
         q.there.next
         (gathered q.kept.list (alts (list_of_type from.now results.now) q.there.content)) result }
 {
-    let operator = wide(content[at]);
+    let operator = usize::from(content[at]);
     match operator {
         NONE => Ok(Gathering {
             next: at + 1,
@@ -350,7 +349,7 @@ pub fn gather(
         }),
         EMPTY => gather_empty(draft, row, at + 1, &mut register[TYPE_WORDS..]),
         TYPE => {
-            let k = wide(content[at + 1]);
+            let k = usize::from(content[at + 1]);
             gather_type(k, from, results, draft, row, at + 2, register)
         }
         _ => gather_compound(content, at, types, from, results, draft, row, register),

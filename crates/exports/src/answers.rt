@@ -1,4 +1,5 @@
-// Answers as one number: the refusal's number times 2^32, and the value.
+// Answers as one number: the refusal's number times 2^32, and the value. The C interface fixes the numbers of each sort of answer, so
+// each is written out here.
 ghost use Rattle.std.specs.Prelude.{◌≡◌, ℕ, Ok};
 ghost use Rattle.grammar.specs.Answers.{refused_by, reading_numbers, verdict_numbers, written_numbers};
 ghost use Rattle.exports.specs.Exported.{told, place_numbers, ShortName};

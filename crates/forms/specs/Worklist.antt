@@ -6,11 +6,10 @@ use Rattle.grammar.specs.SingleTypeForm.{TypeSet}
 use Rattle.union.specs.PairNumbers.{rule_numbered, met_in}
 use Rattle.forms.specs.SetForms.{pairs_labelled, met_within}
 
--- the words have room for 128 sets, of which so many, at most `most`, stand there, and the set is one of eight words
-pub record SetRoom (most : ℕ) (words : List ℕ) (count : ℕ) (set : List ℕ) : Type 0 where
+-- the words have room for 128 sets, of which so many, at most `most`, stand there
+pub record SetRoom (most : ℕ) (words : List ℕ) (count : ℕ) : Type 0 where
   pub few : count ≤ most
   pub room : 1024 ≤ length words
-  pub eight : length set ≡ 8
 
 -- at most `most` are counted
 abbrev pub Few : (most : ℕ) → Option ℕ → Type 0

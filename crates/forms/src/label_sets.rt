@@ -5,7 +5,7 @@ ghost use Rattle.grammar.specs.ReadTable.{is_empty};
 ghost use Rattle.grammar.specs.SingleTypeForm.{TypeSet};
 ghost use Rattle.grammar.specs.Table.{Table};
 ghost use Rattle.sets.specs.Sets.{member};
-ghost use Rattle.union.specs.View.{Views, ViewSized};
+ghost use Rattle.union.specs.View.{Views};
 ghost use Rattle.forms.specs.SetWords.{Ascending, SetsHeld, SetsCounted};
 ghost use Rattle.forms.specs.Worklist.{SetRoom, NumbersOf};
 ghost use Rattle.forms.specs.SetForms.{pairs_labelled, label_sets, set_label};
@@ -22,7 +22,7 @@ pub struct Numbers {
 
 // Those of some pairs that have a label.
 pub fn labelled_pairs(v: United, pairs: Set8, label: usize) -> Set8
-    requires { (ViewSized v) × (length pairs.words ≡ 8) }
+    requires { v.rules ≤ 256 }
     ensures { ((old add : List ℕ) (u : Table) → Views old add v u
         → member result.words 0 ≡ (λ p. is_in p (pairs_labelled u (member pairs.words 0) label))) × (length result.words ≡ 8) }
 {
@@ -38,7 +38,7 @@ pub fn labelled_pairs(v: United, pairs: Set8, label: usize) -> Set8
 
 // The label of a set: that of its first pair.
 pub fn set_label(v: United, set: Set8) -> usize
-    requires { (ViewSized v) × (length set.words ≡ 8) }
+    requires { v.rules ≤ 256 }
     ensures { (old add : List ℕ) (u : Table) (s : TypeSet) → Views old add v u → member set.words 0 ≡ (λ p. is_in p s)
         → Ascending s → is_empty s ≡ false → result ≡ set_label u s }
 {
@@ -58,7 +58,7 @@ pub fn label_sets(
     pairs: Set8,
     words: &mut [u32],
 ) -> Option<usize>
-    requires { (most ≤ 128) × (ViewSized v) × SetRoom most words.old 0 pairs.words }
+    requires { (most ≤ 128) × (v.rules ≤ 256) × SetRoom most words.old 0 }
     ensures { (old add : List ℕ) (u : Table) → Views old add v u → labels ≡ length u.labels
         → SetsCounted most words.new (label_sets u (member pairs.words 0)) result }
 {
@@ -72,7 +72,7 @@ pub fn label_sets(
 
 // For each label the number, among the sets in the words, of the set of those of some pairs that have it.
 pub fn label_numbers(v: United, labels: usize, pairs: Set8, words: &[u32], count: usize) -> Numbers
-    requires { (ViewSized v) × (labels ≤ 256) × SetRoom 128 words.now count pairs.words }
+    requires { (v.rules ≤ 256) × (labels ≤ 256) × SetRoom 128 words.now count }
     ensures { ((old add : List ℕ) (u : Table) (sets : List TypeSet) → Views old add v u → SetsHeld words.now sets
         → count ≡ length sets → NumbersOf (λ l. place same_numbers (pairs_labelled u (member pairs.words 0) l) sets) labels result.of)
         × ((l : ℕ) → get_or result.of l 0 ≤ 128) }

@@ -8,7 +8,7 @@ ghost use Rattle.grammar.specs.Reduce.{fruitful};
 ghost use Rattle.theory.specs.Alternatives.{results_of};
 ghost use Rattle.theory.specs.Conditions.{Labelled};
 ghost use Rattle.sets.specs.Sets.{member};
-ghost use Rattle.union.specs.View.{Views, ViewSized};
+ghost use Rattle.union.specs.View.{Views};
 ghost use Rattle.union.specs.PairNumbers.{is_left, fruitful_of};
 ghost use Rattle.union.specs.TypeLists.{ListsOf};
 ghost use Rattle.forms.specs.Worklist.{NumbersOf};
@@ -21,7 +21,7 @@ use union::united::United;
 
 // The label of a pair, where it is left.
 fn label_left(v: United, left: Set8, p: usize) -> usize
-    requires { (ViewSized v) × (length left.words ≡ 8) × (p < v.rules) }
+    requires { (v.rules ≤ 256) × (p < v.rules) }
     ensures { ((old add : List ℕ) (u : Table) → Views old add v u → member left.words 0 ≡ is_left u → result ≡ label_left u p)
         × (result < 256) }
 {
@@ -33,7 +33,7 @@ fn label_left(v: United, left: Set8, p: usize) -> usize
 
 // For each pair the number of the set of its label.
 fn pair_numbers(v: United, left: Set8, numbers: Numbers) -> Numbers
-    requires { (ViewSized v) × (length left.words ≡ 8) × ((l : ℕ) → get_or numbers.of l 0 ≤ 128) }
+    requires { (v.rules ≤ 256) × ((l : ℕ) → get_or numbers.of l 0 ≤ 128) }
     ensures { ((old add : List ℕ) (u : Table) → Views old add v u → member left.words 0 ≡ is_left u
         → NumbersOf (λ p. get_or numbers.of (label_left u p) 0) v.rules result.of) × ((p : ℕ) → get_or result.of p 0 ≤ 128) }
 {
@@ -61,7 +61,7 @@ fn renumbered(lists: Lists, numbers: Numbers) -> Lists
 
 // For each type the numbers of the sets of its fruitful pairs. `numbers` are those of the labels.
 pub fn result_lists(v: United, lists: TypeLists, left: Set8, numbers: Numbers) -> TypeLists
-    requires { (ViewSized v) × (length left.words ≡ 8) × ((l : ℕ) → get_or numbers.of l 0 ≤ 128) }
+    requires { (v.rules ≤ 256) × ((l : ℕ) → get_or numbers.of l 0 ≤ 128) }
     ensures { (old add : List ℕ) (u : Table) (sets : List TypeSet) (pairs : ℕ → Bool) → Views old add v u
         → ListsOf (fruitful_of u) lists → member left.words 0 ≡ is_left u → Labelled u
         → NumbersOf (λ l. place same_numbers (pairs_labelled u pairs l) sets) (length u.labels) numbers.of

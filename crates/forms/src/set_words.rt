@@ -11,7 +11,7 @@ use sets::set::Set8;
 
 // The number of a set among those that stand in the words; how many they are, where it is not there.
 pub fn set_number(words: &[u32], count: usize, set: Set8) -> usize
-    requires { SetRoom 128 words.now count set.words }
+    requires { SetRoom 128 words.now count }
     ensures { ((sets : List TypeSet) (s : TypeSet) → SetsHeld words.now sets → count ≡ length sets
         → member set.words 0 ≡ (λ p. is_in p s) → Ascending s → result ≡ place same_numbers s sets) × (result ≤ count) }
 {
@@ -25,7 +25,7 @@ pub fn set_number(words: &[u32], count: usize, set: Set8) -> usize
 
 // Lays a set down after the others, and says how many they are then; none, where they would be more than `most`.
 fn put_set(most: usize, words: &mut [u32], count: usize, set: Set8) -> Option<usize>
-    requires { (most ≤ 128) × SetRoom most words.old count set.words }
+    requires { (most ≤ 128) × SetRoom most words.old count }
     ensures { ((sets : List TypeSet) (s : TypeSet) → SetsHeld words.old sets → count ≡ length sets
         → member set.words 0 ≡ (λ p. is_in p s) → Ascending s
         → SetsCounted most words.new (sets ++ (s ∷ [])) result) × (Few most result) }
@@ -39,7 +39,7 @@ fn put_set(most: usize, words: &mut [u32], count: usize, set: Set8) -> Option<us
 
 // The same unless it is empty.
 pub fn put_some(most: usize, words: &mut [u32], count: usize, set: Set8) -> Option<usize>
-    requires { (most ≤ 128) × SetRoom most words.old count set.words }
+    requires { (most ≤ 128) × SetRoom most words.old count }
     ensures { ((sets : List TypeSet) (s : TypeSet) → SetsHeld words.old sets → count ≡ length sets
         → member set.words 0 ≡ (λ p. is_in p s) → Ascending s
         → SetsCounted most words.new (sets ++ keep (λ t. not (is_empty t)) (s ∷ [])) result) × (Few most result) }
@@ -52,7 +52,7 @@ pub fn put_some(most: usize, words: &mut [u32], count: usize, set: Set8) -> Opti
 
 // The same unless it is there.
 pub fn add_set(most: usize, words: &mut [u32], count: usize, set: Set8) -> Option<usize>
-    requires { (most ≤ 128) × SetRoom most words.old count set.words }
+    requires { (most ≤ 128) × SetRoom most words.old count }
     ensures { ((sets : List TypeSet) (s : TypeSet) → SetsHeld words.old sets → count ≡ length sets
         → member set.words 0 ≡ (λ p. is_in p s) → Ascending s → distinct same_numbers sets ≡ sets
         → SetsCounted most words.new (distinct same_numbers (sets ++ (s ∷ []))) result) × (Few most result) }

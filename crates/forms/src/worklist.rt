@@ -4,7 +4,7 @@ ghost use Rattle.grammar.specs.Limits.{Limits};
 ghost use Rattle.grammar.specs.Lists.{distinct, is_in, same_numbers};
 ghost use Rattle.grammar.specs.SingleTypeForm.{TypeSet};
 ghost use Rattle.grammar.specs.Table.{Table};
-ghost use Rattle.union.specs.View.{Views, Viewed, ViewSized};
+ghost use Rattle.union.specs.View.{Views, Viewed};
 ghost use Rattle.union.specs.PairNumbers.{fruitful_of, is_start, met_in};
 ghost use Rattle.union.specs.TypeLists.{ListsOf};
 ghost use Rattle.reducing.specs.PairsListed.{BothListed};
@@ -22,7 +22,7 @@ use union::united::United;
 
 // Adds the sets that the pairs met in a set give: for each pair those met that share its label, unless that set is there.
 fn add_met(most: usize, v: United, found: Met, words: &mut [u32], count: usize) -> Option<usize>
-    requires { (most ≤ 128) × (ViewSized v) × (MetHeld found) × (count ≤ most) × (1024 ≤ length words.old) }
+    requires { (most ≤ 128) × (v.rules ≤ 256) × (MetHeld found) × (count ≤ most) × (1024 ≤ length words.old) }
     ensures { ((old add : List ℕ) (u : Table) (sets : List TypeSet) (s : TypeSet) → Views old add v u
         → SetsHeld words.old sets → count ≡ length sets → distinct same_numbers sets ≡ sets
         → take found.count found.numbers ≡ distinct eqb (met_in u (λ q. is_in q s))

@@ -4,7 +4,6 @@ ghost use Rattle.grammar.specs.Listing.{content_text};
 ghost use Rattle.lister_lines.specs.Printing.{mark_of, row_text, Printable, RowPrintable, Printed};
 
 use crate::pieces::{put_byte, put_bytes, put_type};
-use basis::numbers::wide;
 use reader::operators::{CHOICE, EMPTY, NONE, SEQUENCE, TYPE};
 
 // Where a content ends, and where its text ends.
@@ -43,7 +42,7 @@ pub fn put_content(content: &[u8], at: usize, text: &mut [u8], end: usize) -> En
     ensures { (q : Printable content.now at text.old end)
         → Printed text.old end (content_text q.there.content) q.there.next text.new result }
 {
-    let operator = wide(content[at]);
+    let operator = usize::from(content[at]);
     match operator {
         NONE => {
             let last = put_byte(text, end, b'!');
@@ -60,14 +59,14 @@ pub fn put_content(content: &[u8], at: usize, text: &mut [u8], end: usize) -> En
             }
         }
         TYPE => {
-            let last = put_type(text, end, wide(content[at + 1]));
+            let last = put_type(text, end, usize::from(content[at + 1]));
             Ends {
                 content: at + 2,
                 text: last,
             }
         }
         SEQUENCE..=CHOICE => {
-            let n = wide(content[at + 1]);
+            let n = usize::from(content[at + 1]);
             let mark = mark_of(operator);
             let row = put_row(content, at + 2, n, b'(', mark, text, end);
             marked(text, row, b')')

@@ -39,20 +39,20 @@ use Rattle.reader.proofs.TableFoundLaws.{start_small}
 use Rattle.union.specs.declared.lists.TypeLists.{TypeLists}
 use Rattle.union.specs.PairNumbers.{fruitful_of, is_start, is_left, met_in}
 use Rattle.union.specs.TypeLists.{ListsOf}
-use Rattle.union.specs.Walks.{list_of_type, Listed}
+use Rattle.union.specs.Walks.{list_of_type, Listed, PartOfNumbers}
 use Rattle.union.proofs.MetLaws.{met_hold}
 use Rattle.union.proofs.ReachedLaws.{start_pairs, met_reached, reached_set}
-use Rattle.reducing.specs.PairsListed.{PartBelow, StartsSmall}
+use Rattle.reducing.specs.PairsListed.{StartsSmall}
 use Rattle.reducing.proofs.MeetingLaws.{MetBy, met_was, met_has}
 
 -- the list of a type
 pub list_part : {from numbers : List ℕ} → Listed 128 256 from numbers → (k first end : ℕ) → k < 128 → first ≡ get_or from k 0
     → end ≡ get_or from (k + 1) 0
-    → PartBelow numbers first end
+    → PartOfNumbers numbers first end
 list_part {from} {numbers} l k first end h a b =
     let order = l.order k h in
     let inside = l.inside k h in
-    record { order = omega arith; inside = omega arith; below = λ i s. l.below i }
+    record { order = omega arith; inside = omega arith }
 
 -- the start types
 module _ {s : List ℕ} {index : TableIndex} {g : Table} (x : Held large s index g) where

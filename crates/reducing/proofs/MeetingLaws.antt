@@ -39,7 +39,6 @@ use Rattle.theory.proofs.Lists.ListLaws.{
   any_of,
   eqb_decides,
   keep_on,
-  taken_mem,
   eqb_sym,
   decided_trans,
   joined_next,
@@ -55,14 +54,13 @@ use Rattle.union.specs.declared.lists.TypeLists.{TypeLists}
 use Rattle.union.specs.declared.lists.Lists.{Lists}
 use Rattle.union.specs.declared.met.MetOne.{MetOne}
 use Rattle.union.specs.View.{SourceContent, Views, first_in, from_in, to_in}
-use Rattle.union.specs.Walks.{list_of_type, Once, Adds, MetAsks, MetFinds}
+use Rattle.union.specs.Walks.{list_of_type, Once, Adds, MetAsks, MetFinds, PartOfNumbers}
 use Rattle.union.specs.Rounds.{content_of_rule}
 use Rattle.union.specs.PairNumbers.{rule_numbered, fruitful_of, contents_of_pair, contents_in, met_in, no_rule}
 use Rattle.union.proofs.ViewLaws.{content_is, seen, source_so}
 use Rattle.union.proofs.MetLaws.{finds_adds, finds_once}
 use Rattle.union.proofs.OnceLaws.{adds_none, adds_join, adds_same}
 use Rattle.reducing.specs.declared.meeting.Met.{Met}
-use Rattle.reducing.specs.PairsListed.{PartBelow}
 use Rattle.reducing.specs.PairsMet.{MetHeld, ContentMet, met_in_rule, met_in_pair, Meets}
 use Rattle.reducing.proofs.NumberLaws.{put_next, joined_only, joined_start}
 use Rattle.reducing.proofs.ListingLaws.{rule_at}
@@ -289,16 +287,12 @@ unfolding is_in
 distinct_in xs =
     fun_ext (λ p. among_distinct eqb eqb_sym (decided_trans eqb eqb_decides) (λ q. eq-eqb q q refl) p xs)
 
--- a number of the list
-pub once_at : (list : List ℕ) (count i : ℕ) → Once 256 list count → i < count → get_or list i 0 < 256
-once_at list count i o h = let held = o.held in o.below (get_or list i 0) (taken_mem list i count h (omega arith))
-
-pub met_part : (found : Met) → MetHeld found → PartBelow found.numbers 0 found.count
+-- those met are a part of their list
+pub met_part : (found : Met) → MetHeld found → PartOfNumbers found.numbers 0 found.count
 met_part found h =
     record {
       order = omega arith;
       inside = h.once.held;
-      below = λ i b. once_at found.numbers found.count i h.once b;
     }
 
 -- the next number of a part put into a set of words

@@ -1,6 +1,6 @@
 -- The known pairs of a union by type, read off its view.
 use Rattle.reader.specs.declared.index.TableIndex.{TableIndex}
-use Rattle.std.specs.Prelude.{ℕ, ◌+◌, ◌≤◌, ◌<◌, Bool, ◌&&◌, ◌≡◌, length, get_or, take, eqb}
+use Rattle.std.specs.Prelude.{ℕ, ◌+◌, ◌≤◌, ◌<◌, Bool, ◌&&◌, ◌≡◌, get_or, take, eqb}
 use mathlib.Core.List.{List, ◌++◌, Memᴰ}
 use Rattle.grammar.specs.Lists.{keep, joined_of, numbers_below}
 use Rattle.reader.specs.TableIndex.{start_type, start_count}
@@ -42,12 +42,6 @@ Earlier v ty list = (q : ℕ) → Memᴰ q list → type_in v q < ty
 pub record ListsEach (of : ℕ → List ℕ) (r : Lists) : Type 0 where
   pub listed : Listed 128 256 r.from r.numbers
   pub each : (k : ℕ) → k < 128 → list_of_type r.from r.numbers k ≡ of k
-
--- a part of a list, of numbers below 256
-pub record PartBelow (numbers : List ℕ) (first end : ℕ) : Type 0 where
-  pub order : first ≤ end
-  pub inside : end ≤ length numbers
-  pub below : (i : ℕ) → i < end → get_or numbers i 0 < 256
 
 -- both tables' types have lists, of numbers below 256
 pub record BothListed (r : TypeLists) : Type 0 where

@@ -23,7 +23,7 @@ use union::united::United;
 
 // A set with the numbers of a type's list.
 fn with_list(set: Set8, lists: Lists, k: usize) -> Set8
-    requires { (length set.words ≡ 8) × (Listed 128 256 lists.from lists.numbers) × (k < 128) }
+    requires { (Listed 128 256 lists.from lists.numbers) × (k < 128) }
     ensures { (member result.words 0 ≡ in_either (λ p. is_in p (list_of_type lists.from lists.numbers k)) (member set.words 0))
         × (length result.words ≡ 8) }
 {
@@ -37,7 +37,7 @@ fn with_list(set: Set8, lists: Lists, k: usize) -> Set8
 
 // A set with the numbers of the lists of a table's start types.
 fn with_starts(set: Set8, lists: Lists, index: &TableIndex) -> Set8
-    requires { (length set.words ≡ 8) × (Listed 128 256 lists.from lists.numbers) × (StartsSmall index.now) }
+    requires { (Listed 128 256 lists.from lists.numbers) × (StartsSmall index.now) }
     ensures { (member result.words 0 ≡ in_either (λ p. is_in p
         (joined_of (λ i. list_of_type lists.from lists.numbers (start_type index.now i))
         (numbers_below (start_count index.now))))

@@ -5,10 +5,10 @@ ghost use Rattle.grammar.specs.Table.{Table};
 ghost use Rattle.theory.specs.Alternatives.{only_if};
 ghost use Rattle.sets.specs.Sets.{member, in_either};
 ghost use Rattle.union.specs.View.{Views, Viewed};
-ghost use Rattle.union.specs.Walks.{MetAsks};
+ghost use Rattle.union.specs.Walks.{MetAsks, PartOfNumbers};
 ghost use Rattle.union.specs.PairNumbers.{fruitful_of, met_in};
 ghost use Rattle.union.specs.TypeLists.{ListsOf};
-ghost use Rattle.reducing.specs.PairsListed.{BothListed, PartBelow};
+ghost use Rattle.reducing.specs.PairsListed.{BothListed};
 ghost use Rattle.reducing.specs.PairsMet.{ContentMet, met_in_rule, met_in_pair, MeetAsks, Meets, MetHeld};
 
 use sets::set::{Set4, Set8};
@@ -103,7 +103,7 @@ pub fn met_in_set(old: &[u8], add: &[u8], v: United, lists: TypeLists, set: Set8
 
 // A set with the numbers of a part.
 pub fn with_part(set: Set8, numbers: &[u8], first: usize, end: usize) -> Set8
-    requires { (length set.words ≡ 8) × (PartBelow numbers.now first end) }
+    requires { PartOfNumbers numbers.now first end }
     ensures { (member result.words 0
         ≡ in_either (λ p. is_in p (take (end - first) (drop first numbers.now))) (member set.words 0))
         × (length result.words ≡ 8) }

@@ -6,7 +6,7 @@ ghost use Rattle.grammar.specs.Normalise.{normalise};
 ghost use Rattle.grammar.specs.Reduce.{fruitful};
 ghost use Rattle.theory.specs.Alternatives.{only_if, some_left};
 ghost use Rattle.sets.specs.Sets.{member, set_of_eight_at};
-ghost use Rattle.union.specs.View.{Views, ViewSized};
+ghost use Rattle.union.specs.View.{Views};
 ghost use Rattle.union.specs.Places.{known_at};
 ghost use Rattle.union.specs.PairNumbers.{fruitful_of};
 ghost use Rattle.union.specs.TypeLists.{ListsOf};
@@ -76,7 +76,7 @@ fn lists_from(v: United, known: Set8, base: usize) -> Lists
 
 // The fruitful pairs of each type.
 pub fn fruitful_lists(v: United, words: &[u32]) -> TypeLists
-    requires { (ViewSized v) × (12288 ≤ length words.now) }
+    requires { (v.rules ≤ 256) × (12288 ≤ length words.now) }
     ensures { (old add : List ℕ) (u : Table) → Views old add v u
         → set_of_eight_at words.now known_at ≡ (λ p. is_in p (fruitful (normalise u))) → ListsOf (fruitful_of u) result }
 {

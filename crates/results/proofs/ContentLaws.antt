@@ -27,16 +27,15 @@ module _ {old add : List ℕ} {plan : Plan} {words : List ℕ} (q : RulesFrom ol
   results_in within =
       results_of (pairs_of q.in_words.table) (fruitful (normalise q.in_words.table)) (set_number q.in_words.table q.in_words.sets within)
 
-  abbrev pub merged : (within : ℕ → Bool) (types : Set 8) (results : TypeLists) → ListsOf (results_in within) results → length types.words ≡ 8
+  abbrev pub merged : (within : ℕ → Bool) (types : Set 8) (results : TypeLists) → ListsOf (results_in within) results
       → ((of : ℕ → List ℕ) → ListsOf of results → (k : ℕ) → k < 256 → member types.words 0 k ≡ some_left of k)
       → Joining old add plan.union (record { types = types; lists = results })
-  merged within types results x l t =
+  merged within types results x t =
       record {
         table = q.in_words.table;
         views = q.in_words.views;
         shallow = q.shallow;
         of = results_in within;
         lists = x;
-        words = l;
         typed = t (results_in within) x;
       }

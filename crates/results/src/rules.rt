@@ -35,8 +35,7 @@ pub const SCRATCH: usize = 2 + DRAFT;
 
 // The pairs that form the sets named in the content of a set.
 fn pairs_within(old: &[u8], add: &[u8], plan: Plan, left: Set8, set: Set8) -> Set8
-    requires { ((u : Table) × Views old.now add.now plan.union u × ListsOf (fruitful_of u) plan.lists)
-        × (length left.words ≡ 8) × (length set.words ≡ 8) }
+    requires { (u : Table) × Views old.now add.now plan.union u × ListsOf (fruitful_of u) plan.lists }
     ensures { ((u : Table) (s : TypeSet) → Views old.now add.now plan.union u
         → ListsOf (fruitful_of u) plan.lists → member left.words 0 ≡ is_left u → member set.words 0 ≡ (λ p. is_in p s)
         → member result.words 0 ≡ pairs_within (kind_of plan.kind) u s) × (length result.words ≡ 8) }

@@ -17,7 +17,7 @@ use union::united::United;
 
 // Whether a rule is for text and its content has alternatives over a set of types of the union.
 fn rule_marks(old: &[u8], add: &[u8], v: United, i: usize, types: Set8) -> bool
-    requires { (Viewed old.now add.now v) × (i < v.rules) × (length types.words ≡ 8) }
+    requires { (Viewed old.now add.now v) × (i < v.rules) }
     ensures { (u : Table) → Views old.now add.now v u
         → ((k : ℕ) → k < 256 → member types.words 0 k ≡ some_left (fruitful_of u) k) → result ≡ is_marking u (rule_numbered u i) }
 {

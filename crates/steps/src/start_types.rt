@@ -3,7 +3,7 @@ ghost use Rattle.std.specs.Prelude.{true, ◌≡◌, ℕ, ◌≤◌, ◌<◌, le
 ghost use Rattle.sets.specs.Sets.{set_of_eight_at, nothing, KeptAround};
 ghost use Rattle.union.specs.Places.{starts_at, start_types_at};
 ghost use Rattle.union.specs.Rounds.{puts};
-ghost use Rattle.union.specs.View.{ViewSized, label_in};
+ghost use Rattle.union.specs.View.{label_in};
 
 use forms::label_sets::Numbers;
 use sets::set::Set8;
@@ -12,7 +12,7 @@ use union::united::United;
 
 // Local: the numbers of the sets of the start pairs. `numbers` are those of the labels.
 pub fn start_numbers(v: United, numbers: Numbers, words: &mut [u32])
-    requires { (ViewSized v) × (12288 ≤ length words.old) × ((l : ℕ) → get_or numbers.of l 0 ≤ 128) }
+    requires { (v.rules ≤ 256) × (12288 ≤ length words.old) × ((l : ℕ) → get_or numbers.of l 0 ≤ 128) }
     ensures { (set_of_eight_at words.new start_types_at
         ≡ puts (set_of_eight_at words.old starts_at) (λ p. get_or numbers.of (label_in v p) 0) nothing v.rules)
         × KeptAround start_types_at 8 words.old words.new }

@@ -5,7 +5,7 @@
 --   adds_none, adds_join     no numbers more; some, and then others
 --   adds_once                after that each stands there once
 --   front_kept               the numbers that stood there before stand there still
-use Prim.Native.Nat.{ℕ, zero, suc, ◌+◌, ◌-◌, ◌≤◌, ◌<◌}
+use Prim.Native.Nat.{ℕ, zero, suc, ◌+◌, ◌<◌}
 use native.Mathlib.Omega.{arith}
 use native.Mathlib.Numerals.{add-one}
 use mathlib.Core.Bool.{Bool, true, false, not, ◌||◌}
@@ -13,8 +13,8 @@ use mathlib.Core.List.Memᴰ
 use mathlib.Core.List.{List, [], ◌∷◌, ◌++◌, append-nil, append_assoc, Memᴰ}
 use mathlib.Core.Logic.{⊎_elim}
 use mathlib.Core.Path.{◌≡◌, refl, sym, ◌∙◌, ap, ap₂, subst}
-use lib.ListN.{length, get_or, set, take, drop, length-set, length-append, length-drop}
-use lib.Seq.{take-suc, take-suc-set, take-take, take_at, length-take-le, get_or-drop}
+use lib.ListN.{length, get_or, set, take, drop, length-set, length-append}
+use lib.Seq.{take-suc-set, take-take, take_at, length-take-le, get_or-drop}
 use lib.Dec.{eqb}
 use borrow.Author.Tests.{eqb-true, eq-eqb}
 use Rattle.std.proofs.lemmas.Bool.Decides.{nat_tests}

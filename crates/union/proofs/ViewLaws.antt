@@ -1,6 +1,5 @@
--- Laws of the united view: the rule of a number (`seen`), its content (`content_is`), that the view's numbers are small
--- (`views_sized`), where a rule of the table stands (`rule_seen`), a content in its source (`source_so`, `source_there`,
--- `source_has`, `addition_has`), and its tag (`tag_so`).
+-- Laws of the united view: the rule of a number (`seen`), its content (`content_is`), where a rule of the table stands
+-- (`rule_seen`), a content in its source (`source_so`, `source_there`, `source_has`, `addition_has`), and its tag (`tag_so`).
 use Prim.Native.Nat.{◌≤◌, ℕ, ◌+◌, ◌-◌, ◌/◌, ◌%◌, ◌<◌}
 use native.Mathlib.Omega.{arith}
 use mathlib.Core.Bool.{Bool}
@@ -8,17 +7,12 @@ use mathlib.Core.List.{List, Memᴰ}
 use mathlib.Core.Option.{some as just}
 use mathlib.Core.Path.{◌≡◌, sym, ◌∙◌, ap, ap₂, subst, fun_ext}
 use lib.ListN.{length, get_or, get_elem?, take, drop}
-use Rattle.grammar.specs.Lists.{place}
 use Rattle.grammar.specs.Limits.{large}
 use Rattle.grammar.specs.Content.{Content}
 use Rattle.grammar.specs.Table.{Rule, Table}
-use Rattle.grammar.specs.KindTests.{same_pair}
 use Rattle.grammar.specs.Unite.{shifted}
-use Rattle.grammar.specs.Normalise.{pair_of}
 use Rattle.theory.specs.Alternatives.{has_alts}
-use Rattle.theory.proofs.Lists.ListLaws.{any_of, at_mem, mem_at, at_below, below_at}
-use Rattle.theory.proofs.Lists.PlaceLaws.{place_found}
-use Rattle.theory.proofs.Steps.NormaliseDocuments.{pair_refl}
+use Rattle.theory.proofs.Lists.ListLaws.{mem_at, at_below, below_at}
 use Rattle.theory.proofs.Emission.AlternativeLaws.{has_renamed}
 use Rattle.sets.specs.Sets.{bit_of, member}
 use Rattle.reader.specs.FieldAt.{TagBefore}
@@ -26,7 +20,7 @@ use Rattle.reader.specs.ExprAt.{◌up_to◌, expr_at}
 use Rattle.union.specs.declared.united.United.{United}
 use Rattle.reader.specs.ContentAt.{ContentAt}
 use Rattle.union.specs.Walks.{has_at}
-use Rattle.union.specs.View.{SourceContent, from_in, to_in, shifted_content, RuleSeen, Views, ViewSized, Viewed}
+use Rattle.union.specs.View.{SourceContent, from_in, to_in, shifted_content, RuleSeen, Views, Viewed}
 use Rattle.reader.proofs.ContentAtLaws.{placed_of}
 use Rattle.union.specs.Rounds.{content_of_rule}
 
@@ -45,24 +39,6 @@ module _ {old add : List ℕ} {v : United} {u : Table} (x : Views old add v u) w
       let p = mem_at m in
       let h = at_below u.rules p.0 p.1 in
       (p.0, omega (arith, x.rules), p.1, x.rule p.0 r p.1)
-
-  pub pair_below : (r : Rule) → Memᴰ r u.rules → pair_of u r < 256
-  unfolding pair_of
-  pair_below r m =
-      let f = place_found same_pair r u.rules (any_of (same_pair r) m (pair_refl r)) in
-      let h = at_below u.rules (place same_pair r u.rules) f.1 in
-      omega (arith, x.rules, x.few)
-
-  pub views_sized : ViewSized v
-  views_sized =
-      record {
-        few = x.few;
-        type = λ i h. let s = seen i h in subst (λ (n : ℕ). n < 256) (sym s.2.type) s.2.small;
-        first =
-            λ i h.
-            let s = seen i h in
-            subst (λ (n : ℕ). n < 256) (sym s.2.first) (pair_below s.0 (at_mem u.rules i s.1));
-      }
 
 -- the content of a rule stands within the bytes of its own table
 module _ {old add : List ℕ} {v : United} (w : Viewed old add v) (i : ℕ) (h : i < v.rules) where

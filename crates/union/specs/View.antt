@@ -76,12 +76,6 @@ pub record Views (old add : List ℕ) (v : United) (u : Table) : Type 0 where
   pub few : v.rules ≤ 256
   pub rule : (i : ℕ) (r : Rule) → get_elem? u.rules i ≡ just r → RuleSeen old add v u i r
 
--- its numbers are small
-pub record ViewSized (v : United) : Type 0 where
-  pub few : v.rules ≤ 256
-  pub type : (i : ℕ) → i < v.rules → type_in v i < 256
-  pub first : (i : ℕ) → i < v.rules → first_in v i < 256
-
 -- It is that of some table.
 pub record Viewed (old add : List ℕ) (v : United) : Type 0 where
   pub table : Table

@@ -38,11 +38,10 @@ pub record Once (bound : ℕ) (list : List ℕ) (count : ℕ) : Type 0 where
   pub once : distinct eqb (take count list) ≡ take count list
   pub below : (p : ℕ) → Memᴰ p (take count list) → p < bound
 
--- a part of numbers below a bound
-pub record PartOfNumbers (bound : ℕ) (numbers : List ℕ) (first end : ℕ) : Type 0 where
+-- a part of numbers
+pub record PartOfNumbers (numbers : List ℕ) (first end : ℕ) : Type 0 where
   pub order : first ≤ end
   pub inside : end ≤ length numbers
-  pub below : (i : ℕ) → get_or numbers i 0 < bound
 
 -- after some numbers others stand there, of all each once
 pub record Adds (numbers more list : List ℕ) (count : ℕ) : Type 0 where

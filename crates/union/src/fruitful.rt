@@ -6,7 +6,7 @@ ghost use Rattle.grammar.specs.Normalise.{normalise};
 ghost use Rattle.grammar.specs.Reduce.{fruitful};
 ghost use Rattle.theory.specs.Alternatives.{has_alts};
 ghost use Rattle.sets.specs.Sets.{member, set_of_eight_at};
-ghost use Rattle.union.specs.View.{Views, Viewed, ViewSized};
+ghost use Rattle.union.specs.View.{Views, Viewed};
 ghost use Rattle.union.specs.Places.{known_at};
 ghost use Rattle.union.specs.Rounds.{put_if, content_of_rule, types_with, after_round};
 
@@ -17,7 +17,7 @@ use sets::set::Set8;
 
 // Whether the content of a rule has alternatives, over a set of types of the union.
 pub fn rule_has(old: &[u8], add: &[u8], v: United, i: usize, types: Set8) -> bool
-    requires { (Viewed old.now add.now v) × (i < v.rules) × (length types.words ≡ 8) }
+    requires { (Viewed old.now add.now v) × (i < v.rules) }
     ensures { (u : Table) → Views old.now add.now v u
         → result ≡ has_alts (member types.words 0) (content_of_rule u i) }
 {
@@ -31,7 +31,7 @@ pub fn rule_has(old: &[u8], add: &[u8], v: United, i: usize, types: Set8) -> boo
 
 // A set with one number more, or as it is.
 pub fn put_if(on: bool, set: Set8, k: usize) -> Set8
-    requires { (k < 256) × (length set.words ≡ 8) }
+    requires { k < 256 }
     ensures { (member result.words 0 ≡ put_if on k (member set.words 0)) × (length result.words ≡ 8) }
 {
     if on {
@@ -42,7 +42,7 @@ pub fn put_if(on: bool, set: Set8, k: usize) -> Set8
 
 // The types that have a known pair.
 fn types_with(v: United, known: Set8) -> Set8
-    requires { (ViewSized v) × (length known.words ≡ 8) }
+    requires { v.rules ≤ 256 }
     ensures { (member result.words 0 ≡ types_with v (member known.words 0)) × (length result.words ≡ 8) }
 {
     let mut set = Set8::empty();
@@ -55,7 +55,7 @@ fn types_with(v: United, known: Set8) -> Set8
 
 // The known pairs with those that a round finds fruitful.
 fn round(old: &[u8], add: &[u8], v: United, known: Set8) -> Set8
-    requires { (Viewed old.now add.now v) × (length known.words ≡ 8) }
+    requires { Viewed old.now add.now v }
     ensures { ((u : Table) → Views old.now add.now v u
         → member result.words 0 ≡ after_round u v (member known.words 0)) × (length result.words ≡ 8) }
 {

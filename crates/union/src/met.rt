@@ -50,7 +50,7 @@ fn append(list: &mut [u8], count: usize, number: u8) -> usize
 
 // Adds the numbers of a part.
 fn append_part(list: &mut [u8], count: usize, numbers: &[u8], first: usize, end: usize) -> usize
-    requires { (Once 256 list.old count) × (PartOfNumbers 256 numbers.now first end) }
+    requires { (Once 256 list.old count) × (PartOfNumbers numbers.now first end) }
     ensures { Adds (take count list.old) (take (end - first) (drop first numbers.now))
         list.new result }
 {

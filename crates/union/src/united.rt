@@ -13,7 +13,8 @@ use crate::labels::{Names, new_names, united_label};
 use reader::index::TableIndex;
 
 // Old rules come first. A type of the addition counts from 128 on. `firsts` has the number of the first rule of each rule's pair; the
-// content of a rule stands in the bytes of its own table.
+// content of a rule stands in the bytes of its own table. It is a copy wherever it goes: it has nothing but numbers, and the contracts
+// and the steps above take it by value.
 #[derive(Clone, Copy)]
 pub struct United {
     pub rules: usize,
@@ -26,6 +27,7 @@ pub struct United {
 }
 
 // A union: its rules, and where its new labels stand in the addition's bytes. The old labels stand where the old index says.
+// By value, as its rules.
 #[derive(Clone, Copy)]
 pub struct Union {
     pub rules: United,

@@ -1,5 +1,6 @@
 // The public calls that decide. A call that is lent too few words changes none; otherwise the words that it needs are zero after it, and
-// words beyond them never change.
+// words beyond them never change. So all three begin and end alike: they refuse too few words, and clear the words of the size. What
+// they read and lend between differs, and these lines are plainer than a call that is given that part as a closure.
 ghost use Rattle.std.specs.Prelude.{[]};
 ghost use Rattle.grammar.specs.LimitSets.{size_limits};
 ghost use Rattle.grammar.specs.Kinds.{local, single_type};

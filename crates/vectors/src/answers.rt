@@ -93,7 +93,7 @@ fn of_name(refusal: u32, table: &[u8], name: &[u8]) -> Told
     }
 }
 
-// The name of a label.
+// The name of a label. `label_name` gives back the name alone, and leaves the refusal's number behind a reference, lent here.
 fn label_told(size: Size, classes: &[u8], table: &[u8], label: usize, work: &mut [u32]) -> Told {
     let mut refusal: u32 = 0;
     let name = label_name(size, classes, table, label, work, &mut refusal);

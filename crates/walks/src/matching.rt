@@ -250,7 +250,8 @@ fn in_turn(
     }
 }
 
-// The same over so many operands of a choice, from a place on.
+// The same over so many operands of a choice, from a place on. It stays apart from `in_turn`: the start, the walk over an operand and
+// the updates of all truth values differ, so one function for both would choose between the two in almost every line of its loop.
 #[cycle(each_in_turn_operand_operand_in_turn_pass)]
 fn each(
     content: &[u8],

@@ -1,4 +1,5 @@
 -- `gather_rule` meets its contract: the content stands in the bytes of its own table, the addition's types four words further on.
+use native.Mathlib.Omega.{arith}
 use Rattle.contents.proofs.RuleLaws.{old_part, old_source, old_gives, added_part, added_source, added_gives}
 use Rattle.contents.proofs.joining.gather_rule.Goals as goal
 
@@ -25,7 +26,7 @@ gather_content-requires c =
     let begins = c.from-from.ensures in
     let ends = c.from-to.ensures in
     let k = c.requires.2 in
-    (old_source c.requires.0 _ c.requires.1 begins ends k c.if-i-v.true, k.registered)
+    (old_source c.requires.0 _ c.requires.1 begins ends k c.if-i-v.true (omega arith), k.registered)
 
 pub returns-then-i-v : goal.returns-then-i-v
 returns-then-i-v c =
@@ -35,7 +36,7 @@ returns-then-i-v c =
     let given = c.gather_content.ensures in
     λ q k.
     let h = c.requires.1 in
-    old_gives q _ h begins ends k is-old _ _ _ (given (old_source q _ h begins ends k is-old) k.registered)
+    old_gives q _ h begins ends k is-old _ _ _ (given (old_source q _ h begins ends k is-old (omega arith)) k.registered)
 
 pub slice_bounds-gather_content-count-2 : goal.slice_bounds-gather_content-count-2
 slice_bounds-gather_content-count-2 c =
@@ -60,7 +61,7 @@ gather_content-requires-2 c =
     let begins = c.from-from.ensures in
     let ends = c.from-to.ensures in
     let k = c.requires.2 in
-    (added_source c.requires.0 _ c.requires.1 begins ends k c.if-i-v.false, k.registered)
+    (added_source c.requires.0 _ c.requires.1 begins ends k c.if-i-v.false (omega arith), k.registered)
 
 pub returns : goal.returns
 returns c =
@@ -70,4 +71,4 @@ returns c =
     let given = c.gather_content-2.ensures in
     λ q k.
     let h = c.requires.1 in
-    added_gives q _ h begins ends k is-added _ _ _ (given (added_source q _ h begins ends k is-added) k.registered)
+    added_gives q _ h begins ends k is-added _ _ _ (given (added_source q _ h begins ends k is-added (omega arith)) k.registered)

@@ -56,34 +56,8 @@ emit_row-loop-init t c = (omega arith, refl, refl, λ q. rw (none_passed c.args.
 pub gather-bounds-content-at : goal.gather-bounds-content-at
 gather-bounds-content-at t c = (content_inside large _ _ c.requires.0.there).0
 
-pub gather_around-bounds-content-at : goal.gather_around-bounds-content-at
-gather_around-bounds-content-at t c = (content_inside large _ _ c.requires.1.0.there).0
-
-pub gather_compound-bounds-content-at : goal.gather_compound-bounds-content-at
-gather_compound-bounds-content-at t c = (content_inside large _ _ c.requires.1.0.there).0
-
-pub gather_one-bounds-content-at : goal.gather_one-bounds-content-at
-gather_one-bounds-content-at t c = (content_inside large _ _ c.requires.2.0.there).0
-
 pub gather_row-loop-init : goal.gather_row-loop-init
 gather_row-loop-init t c = (omega arith, refl, refl, λ q y. rw (none_passed c.args.n) (record { rest = q; registered = y; whole = λ register d o g. g }))
-
-pub gather_sequence-overflow_add-at : goal.gather_sequence-overflow_add-at
-gather_sequence-overflow_add-at t c =
-    let i = count_there large _ _ c.requires.1.0.there (omega arith) (omega arith) in
-    omega arith
-
-pub emit_row-slice_bounds-clear-count : goal.emit_row-slice_bounds-clear-count
-emit_row-slice_bounds-clear-count t c =
-    let some = some_left c.loop-test.true in
-    let r = (c.loop.invariant.3 c.requires).rest in
-    let w = operand_words r (list_of_type c.args.from.now c.args.results.now) some in
-    omega arith
-
-pub gather_around-overflow_add-at : goal.gather_around-overflow_add-at
-gather_around-overflow_add-at t c =
-    let i = content_inside large _ _ c.requires.1.0.there in
-    omega arith
 
 pub gather_row-gather-requires : goal.gather_row-gather-requires
 gather_row-gather-requires t c =
@@ -111,14 +85,6 @@ gather_around-content_has-asked-requires t c =
     let b = c.requires.0 in
     ((single_of large _ _ c.requires.1.0.there res b).operand, omega arith)
 
-pub gather_compound-overflow_add-at : goal.gather_compound-overflow_add-at
-gather_compound-overflow_add-at t c =
-    let i = content_inside large _ _ c.requires.1.0.there in
-    omega arith
-
-pub gather_one-gather_sequence-requires : goal.gather_one-gather_sequence-requires
-gather_one-gather_sequence-requires t c = (omega arith, (sym c.wide.ensures.value ∙ c.if-wide-eq-SEQUENCE.true, c.requires.2))
-
 pub gather_row-returns-in_err-gathered : goal.gather_row-returns-in_err-gathered
 gather_row-returns-in_err-gathered t c =
     rw (handed_on c.from_residual.result c.from_residual.ensures)
@@ -136,11 +102,6 @@ emit_row-slice_bounds-clear-end t c =
     let w = operand_words r (list_of_type c.args.from.now c.args.results.now) some in
     omega arith
 
-pub gather-overflow_add-at : goal.gather-overflow_add-at
-gather-overflow_add-at t c =
-    let i = content_inside large _ _ c.requires.0.there in
-    omega arith
-
 pub gather_around-bounds-draft-end : goal.gather_around-bounds-draft-end
 gather_around-bounds-draft-end t c =
     let res = list_of_type c.args.from.now c.args.results.now in
@@ -148,57 +109,21 @@ gather_around-bounds-draft-end t c =
     let b = c.requires.0 in
     around_inside q res (single_of large _ _ q.there res b)
 
-pub gather_compound-bounds-content-at-then-wide-eq-CHOICE : goal.gather_compound-bounds-content-at-then-wide-eq-CHOICE
-gather_compound-bounds-content-at-then-wide-eq-CHOICE t c =
-    let b = sym c.wide.ensures.value ∙ c.if-wide-eq-CHOICE.true in
+pub gather_compound-bounds-content-at-then-from-eq-CHOICE : goal.gather_compound-bounds-content-at-then-from-eq-CHOICE
+gather_compound-bounds-content-at-then-from-eq-CHOICE t c =
+    let b = sym c.from.ensures ∙ c.if-from-eq-CHOICE.true in
     count_there large _ _ c.requires.1.0.there (omega arith) (omega arith)
-
-pub gather_sequence-overflow_add-at-2 : goal.gather_sequence-overflow_add-at-2
-gather_sequence-overflow_add-at-2 t c =
-    let i = count_there large _ _ c.requires.1.0.there (omega arith) (omega arith) in
-    omega arith
-
-pub gather_one-returns-then-wide-eq-SEQUENCE : goal.gather_one-returns-then-wide-eq-SEQUENCE
-gather_one-returns-then-wide-eq-SEQUENCE t c = c.gather_sequence.ensures
-
-pub gather-slice_bounds-gather_empty-count : goal.gather-slice_bounds-gather_empty-count
-gather-slice_bounds-gather_empty-count t c = omega arith
-
-pub gather_around-overflow_add-at-then-asked : goal.gather_around-overflow_add-at-then-asked
-gather_around-overflow_add-at-then-asked t c =
-    let i = content_inside large _ _ c.requires.1.0.there in
-    omega arith
-
-pub gather_one-gather_around-requires : goal.gather_one-gather_around-requires
-gather_one-gather_around-requires t c = (omega arith, (omega arith, c.requires.2))
 
 pub gather_sequence-row_has-asked-requires : goal.gather_sequence-row_has-asked-requires
 gather_sequence-row_has-asked-requires t c =
     let q = c.requires.1.0 in
     let b = c.requires.0 in
     let words = q.maps.words in
-    ((operands_of q b c.wide-n.ensures.value).operands, omega arith)
+    ((operands_of q b c.from-n.ensures).operands, omega arith)
 
 pub emit_row-overflow_add-row : goal.emit_row-overflow_add-row
 emit_row-overflow_add-row t c =
     let r = (c.loop.invariant.3 c.requires).rest in
-    omega arith
-
-pub gather-slice_bounds-gather_empty-start : goal.gather-slice_bounds-gather_empty-start
-gather-slice_bounds-gather_empty-start t c = omega arith
-
-pub gather_around-overflow_add-end : goal.gather_around-overflow_add-end
-gather_around-overflow_add-end t c =
-    let res = list_of_type c.args.from.now c.args.results.now in
-    let q = c.requires.1.0 in
-    let b = c.requires.0 in
-    let i = around_inside q res (single_of large _ _ q.there res b) in
-    omega arith
-
-pub gather_compound-overflow_add-at-then-wide-eq-CHOICE : goal.gather_compound-overflow_add-at-then-wide-eq-CHOICE
-gather_compound-overflow_add-at-then-wide-eq-CHOICE t c =
-    let b = sym c.wide.ensures.value ∙ c.if-wide-eq-CHOICE.true in
-    let i = count_there large _ _ c.requires.1.0.there (omega arith) (omega arith) in
     omega arith
 
 pub gather_row-loop-preserved : goal.gather_row-loop-preserved
@@ -234,31 +159,22 @@ gather_sequence-bounds-draft-end t c =
     let res = list_of_type c.args.from.now c.args.results.now in
     let q = c.requires.1.0 in
     let b = c.requires.0 in
-    let n = c.wide-n.ensures.value in
+    let n = c.from-n.ensures in
     let i = sequence_inside q res (operands_of q b n) n in
     omega arith
-
-pub gather_one-returns : goal.gather_one-returns
-gather_one-returns t c = c.gather_around.ensures
 
 pub emit_row-overflow_add-row-in-loop : goal.emit_row-overflow_add-row-in-loop
 emit_row-overflow_add-row-in-loop t c =
     let r = (c.loop.invariant.3 c.requires).rest in
     omega arith
 
-pub gather-slice_bounds-gather_empty-end : goal.gather-slice_bounds-gather_empty-end
-gather-slice_bounds-gather_empty-end t c = omega arith
-
-pub gather_around-slice_bounds-emit_row-count : goal.gather_around-slice_bounds-emit_row-count
-gather_around-slice_bounds-emit_row-count t c = omega arith
-
 pub gather_compound-gather_row-requires : goal.gather_compound-gather_row-requires
 gather_compound-gather_row-requires t c =
     let res = list_of_type c.args.from.now c.args.results.now in
     let q = c.requires.1.0 in
-    let b = sym c.wide.ensures.value ∙ c.if-wide-eq-CHOICE.true in
+    let b = sym c.from.ensures ∙ c.if-from-eq-CHOICE.true in
     let i = count_there large _ _ q.there (omega arith) (omega arith) in
-    (omega arith, (choice_sources q res (choices-of q b c.wide-n.ensures.value), c.requires.1.1))
+    (omega arith, (choice_sources q res (choices-of q b c.from-n.ensures), c.requires.1.1))
 
 pub gather_row-returns : goal.gather_row-returns
 gather_row-returns t c =
@@ -267,28 +183,15 @@ gather_row-returns t c =
     let r = x.rest in
     x.whole _ _ _ (no_sources r _ (omega arith) x.registered)
 
-pub gather_sequence-overflow_add-draft : goal.gather_sequence-overflow_add-draft
-gather_sequence-overflow_add-draft t c =
-    let i = count_there large _ _ c.requires.1.0.there (omega arith) (omega arith) in
-    omega arith
-
-pub emit_row-overflow_add-row-in-loop-2 : goal.emit_row-overflow_add-row-in-loop-2
-emit_row-overflow_add-row-in-loop-2 t c =
-    let r = (c.loop.invariant.3 c.requires).rest in
-    omega arith
-
 pub gather-gather_empty-requires : goal.gather-gather_empty-requires
 gather-gather_empty-requires t c = (source_room c.requires.0, noted_part c.requires.1)
 
-pub gather_around-slice_bounds-emit_row-start : goal.gather_around-slice_bounds-emit_row-start
-gather_around-slice_bounds-emit_row-start t c = omega arith
-
-pub gather_compound-returns-then-wide-eq-CHOICE : goal.gather_compound-returns-then-wide-eq-CHOICE
-gather_compound-returns-then-wide-eq-CHOICE t c =
+pub gather_compound-returns-then-from-eq-CHOICE : goal.gather_compound-returns-then-from-eq-CHOICE
+gather_compound-returns-then-from-eq-CHOICE t c =
     let res = list_of_type c.args.from.now c.args.results.now in
-    let b = sym c.wide.ensures.value ∙ c.if-wide-eq-CHOICE.true in
+    let b = sym c.from.ensures ∙ c.if-from-eq-CHOICE.true in
     λ q s.
-    let cs = choices-of q b c.wide-n.ensures.value in
+    let cs = choices-of q b c.from-n.ensures in
     choice_gives q res cs _ _ (c.gather_row.ensures (choice_sources q res cs) s)
 
 pub gather_sequence-bounds-content-at-then-asked : goal.gather_sequence-bounds-content-at-then-asked
@@ -306,26 +209,6 @@ emit_row-gather-requires t c =
     let r = x.rest in
     (omega arith, (first_operand r res some _ cleared, operand_registered r res some c.clear.new.words c.loop.register refl c.clear.ensures))
 
-pub gather-overflow_add-at-in-2 : goal.gather-overflow_add-at-in-2
-gather-overflow_add-at-in-2 t c =
-    let i = content_inside large _ _ c.requires.0.there in
-    omega arith
-
-pub gather_around-slice_bounds-emit_row-end : goal.gather_around-slice_bounds-emit_row-end
-gather_around-slice_bounds-emit_row-end t c = omega arith
-
-pub gather_compound-slice_bounds-gather_one-count : goal.gather_compound-slice_bounds-gather_one-count
-gather_compound-slice_bounds-gather_one-count t c = omega arith
-
-pub gather_sequence-overflow_add-draft-then-asked : goal.gather_sequence-overflow_add-draft-then-asked
-gather_sequence-overflow_add-draft-then-asked t c =
-    let res = list_of_type c.args.from.now c.args.results.now in
-    let q = c.requires.1.0 in
-    let b = c.requires.0 in
-    let n = c.wide-n.ensures.value in
-    let i = sequence_inside q res (operands_of q b n) n in
-    omega arith
-
 pub emit_row-returns-in_err-gathered : goal.emit_row-returns-in_err-gathered
 emit_row-returns-in_err-gathered t c =
     rw (handed_on c.from_residual.result c.from_residual.ensures)
@@ -339,7 +222,7 @@ emit_row-returns-in_err-gathered t c =
     x.whole _ _ (operand_wide r res some _ _ g c.in_err-gathered.was))
 
 pub gather-bounds-content-at-in-2 : goal.gather-bounds-content-at-in-2
-gather-bounds-content-at-in-2 t c = (type_there large _ _ c.requires.0.there (sym c.wide-operator.ensures.value ∙ c.in-2.is)).0
+gather-bounds-content-at-in-2 t c = (type_there large _ _ c.requires.0.there (sym c.from-operator.ensures ∙ c.in-2.is)).0
 
 pub gather_around-emit_row-requires : goal.gather_around-emit_row-requires
 gather_around-emit_row-requires t c =
@@ -349,15 +232,12 @@ gather_around-emit_row-requires t c =
     let i = content_inside large _ _ q.there in
     (omega arith, around_operands q res (single_of large _ _ q.there res b) _ (rows-within c.args.notes.now c.requires.1.1.room))
 
-pub gather_compound-slice_bounds-gather_one-start : goal.gather_compound-slice_bounds-gather_one-start
-gather_compound-slice_bounds-gather_one-start t c = omega arith
-
 pub gather_sequence-bounds-draft-end-then-asked : goal.gather_sequence-bounds-draft-end-then-asked
 gather_sequence-bounds-draft-end-then-asked t c =
     let res = list_of_type c.args.from.now c.args.results.now in
     let q = c.requires.1.0 in
     let b = c.requires.0 in
-    let n = c.wide-n.ensures.value in
+    let n = c.from-n.ensures in
     let i = sequence_inside q res (operands_of q b n) n in
     simp length-set (omega arith)
 
@@ -384,23 +264,6 @@ gather_around-settle-requires t c =
     let g = c.emit_row.ensures (around_operands q res one _ (rows-within c.args.notes.now m.room)) in
     ((around_newest q res one has _ _ g c.in_ok-emitted.was c.emit_row.auto.draft, source_noted q m _), q.fits, q.small)
 
-pub gather_compound-slice_bounds-gather_one-end : goal.gather_compound-slice_bounds-gather_one-end
-gather_compound-slice_bounds-gather_one-end t c = omega arith
-
-pub gather_sequence-overflow_add-at-then-asked : goal.gather_sequence-overflow_add-at-then-asked
-gather_sequence-overflow_add-at-then-asked t c =
-    let i = count_there large _ _ c.requires.1.0.there (omega arith) (omega arith) in
-    omega arith
-
-pub emit_row-overflow_add-start : goal.emit_row-overflow_add-start
-emit_row-overflow_add-start t c = omega (arith, c.well_formed.1.1.1.1.1.1.0)
-
-pub gather-overflow_add-at-in-2-2 : goal.gather-overflow_add-at-in-2-2
-gather-overflow_add-at-in-2-2 t c =
-    let b = sym c.wide-operator.ensures.value ∙ c.in-2.is in
-    let i = type_there large _ _ c.requires.0.there b in
-    omega arith
-
 pub gather_around-returns-in_err-emitted : goal.gather_around-returns-in_err-emitted
 gather_around-returns-in_err-emitted t c =
     rw (handed_on c.from_residual.result c.from_residual.ensures)
@@ -415,19 +278,10 @@ gather_around-returns-in_err-emitted t c =
 
 pub gather_compound-gather_one-requires : goal.gather_compound-gather_one-requires
 gather_compound-gather_one-requires t c =
-    let w = c.wide.ensures.value in
+    let w = c.from.ensures in
     let q = c.requires.1.0 in
     let y = c.requires.1.1 in
-    (omega arith, (c.requires.0, (λ z. c.if-wide-eq-CHOICE.false (w ∙ z)), (source_as q _ (notes-within c.args.register.now y.types.room), noted_part y)))
-
-pub gather_sequence-overflow_add-end : goal.gather_sequence-overflow_add-end
-gather_sequence-overflow_add-end t c =
-    let res = list_of_type c.args.from.now c.args.results.now in
-    let q = c.requires.1.0 in
-    let b = c.requires.0 in
-    let n = c.wide-n.ensures.value in
-    let i = sequence_inside q res (operands_of q b n) n in
-    omega arith
+    (omega arith, (c.requires.0, (λ z. c.if-from-eq-CHOICE.false (w ∙ z)), (source_as q _ (notes-within c.args.register.now y.types.room), noted_part y)))
 
 pub emit_row-returns-then-start-place : goal.emit_row-returns-then-start-place
 emit_row-returns-then-start-place t c =
@@ -448,7 +302,7 @@ pub gather-gather_type-requires : goal.gather-gather_type-requires
 unfolding large
 gather-gather_type-requires t c =
     let q = c.requires.0 in
-    let b = sym c.wide-operator.ensures.value ∙ c.in-2.is in
+    let b = sym c.from-operator.ensures ∙ c.in-2.is in
     let i = type_there large _ _ q.there b in
     (omega arith, (source_room q, c.requires.1))
 
@@ -467,15 +321,9 @@ gather_around-returns-then-asked t c =
 
 pub gather_compound-returns : goal.gather_compound-returns
 gather_compound-returns t c =
-    let w = c.wide.ensures.value in
-    λ q s. plain_gives q _ (λ z. omega arith) (λ z. c.if-wide-eq-CHOICE.false (w ∙ z)) s c.gather_one.auto.notes
+    let w = c.from.ensures in
+    λ q s. plain_gives q _ (λ z. omega arith) (λ z. c.if-from-eq-CHOICE.false (w ∙ z)) s c.gather_one.auto.notes
     (c.gather_one.ensures (source_as q _ (notes-within c.args.register.now s.types.room)) (noted_part s))
-
-pub gather_sequence-slice_bounds-emit_row-count : goal.gather_sequence-slice_bounds-emit_row-count
-gather_sequence-slice_bounds-emit_row-count t c = omega arith
-
-pub gather-gather_compound-requires : goal.gather-gather_compound-requires
-gather-gather_compound-requires t c = (omega arith, (omega arith, c.requires))
 
 pub gather_around-returns-then-operator-eq-ONE_OR_MORE_BYTE : goal.gather_around-returns-then-operator-eq-ONE_OR_MORE_BYTE
 gather_around-returns-then-operator-eq-ONE_OR_MORE_BYTE t c =
@@ -486,19 +334,13 @@ gather_around-returns-then-operator-eq-ONE_OR_MORE_BYTE t c =
     let found = content_found _ _ _ q.maps _ _ one.operand _ _ c.content_has-asked.ensures in
     around_blank q res one _ found.1 c.if-operator-eq-ONE_OR_MORE_BYTE.true (sym found.0 ∙ c.if-asked.false) m
 
-pub gather_sequence-slice_bounds-emit_row-start : goal.gather_sequence-slice_bounds-emit_row-start
-gather_sequence-slice_bounds-emit_row-start t c = omega arith
-
 pub gather-returns-in-0 : goal.gather-returns-in-0
 gather-returns-in-0 t c =
-    let b = sym c.wide-operator.ensures.value ∙ c.in-0.is in
+    let b = sym c.from-operator.ensures ∙ c.in-0.is in
     λ q s. none_gives q _ b s
 
 pub gather_around-gather_empty-requires : goal.gather_around-gather_empty-requires
 gather_around-gather_empty-requires t c = (source_room c.requires.1.0, c.requires.1.1)
-
-pub gather_sequence-slice_bounds-emit_row-end : goal.gather_sequence-slice_bounds-emit_row-end
-gather_sequence-slice_bounds-emit_row-end t c = omega arith
 
 pub emit_row-loop-preserved : goal.emit_row-loop-preserved
 emit_row-loop-preserved t c =
@@ -531,7 +373,7 @@ emit_row-loop-preserved t c =
 
 pub gather-returns-in-1 : goal.gather-returns-in-1
 gather-returns-in-1 t c =
-    let b = sym c.wide-operator.ensures.value ∙ c.in-1.is in
+    let b = sym c.from-operator.ensures ∙ c.in-1.is in
     λ q s. plain_gives q _ (λ z. omega arith) (λ z. omega arith)
     s
     c.gather_empty.auto.notes
@@ -552,7 +394,7 @@ gather_sequence-emit_row-requires t c =
     let res = list_of_type c.args.from.now c.args.results.now in
     let q = c.requires.1.0 in
     let b = c.requires.0 in
-    let n = c.wide-n.ensures.value in
+    let n = c.from-n.ensures in
     let i = count_there large _ _ q.there (omega arith) (omega arith) in
     (omega arith, sequence_operands q res (operands_of q b n) n _ (rows-within c.args.notes.now c.requires.1.1.room))
 
@@ -565,8 +407,8 @@ emit_row-returns t c =
 
 pub gather-returns-in-2 : goal.gather-returns-in-2
 gather-returns-in-2 t c =
-    let b = sym c.wide-operator.ensures.value ∙ c.in-2.is in
-    λ q s. type_gives q b _ c.wide-k.ensures.value _ _ (c.gather_type.ensures (source_room q) s)
+    let b = sym c.from-operator.ensures ∙ c.in-2.is in
+    λ q s. type_gives q b _ c.from-k.ensures _ _ (c.gather_type.ensures (source_room q) s)
 
 pub gather_sequence-settle-requires : goal.gather_sequence-settle-requires
 gather_sequence-settle-requires t c =
@@ -574,7 +416,7 @@ gather_sequence-settle-requires t c =
     let q = c.requires.1.0 in
     let m = c.requires.1.1 in
     let b = c.requires.0 in
-    let n = c.wide-n.ensures.value in
+    let n = c.from-n.ensures in
     let cs = operands_of q b n in
     let found = row_found _ _ _ q.maps _ _ _ cs.operands _ _ _ c.row_has-asked.ensures in
     let has = sym found.0 ∙ c.if-asked.true in
@@ -586,7 +428,7 @@ gather_sequence-returns-in_err-emitted t c =
     rw (handed_on c.from_residual.result c.from_residual.ensures)
     (let res = list_of_type c.args.from.now c.args.results.now in
     let b = c.requires.0 in
-    let n = c.wide-n.ensures.value in
+    let n = c.from-n.ensures in
     λ q m.
     let cs = operands_of q b n in
     let found = row_found _ _ _ q.maps _ _ _ cs.operands _ _ _ c.row_has-asked.ensures in
@@ -594,14 +436,11 @@ gather_sequence-returns-in_err-emitted t c =
     let g = c.emit_row.ensures (sequence_operands q res cs n _ (rows-within c.args.notes.now m.room)) in
     sequence_wide q res cs n has _ _ g c.in_err-emitted.was)
 
-pub gather-returns-in_default : goal.gather-returns-in_default
-gather-returns-in_default t c = c.gather_compound.ensures
-
 pub gather_sequence-returns-then-asked : goal.gather_sequence-returns-then-asked
 gather_sequence-returns-then-asked t c =
     let res = list_of_type c.args.from.now c.args.results.now in
     let b = c.requires.0 in
-    let n = c.wide-n.ensures.value in
+    let n = c.from-n.ensures in
     let e = c.in_ok-emitted.was in
     let l = c.emit_row.auto.draft in
     λ q m.
@@ -615,7 +454,7 @@ pub gather_sequence-returns : goal.gather_sequence-returns
 gather_sequence-returns t c =
     let res = list_of_type c.args.from.now c.args.results.now in
     let b = c.requires.0 in
-    let n = c.wide-n.ensures.value in
+    let n = c.from-n.ensures in
     λ q m.
     let cs = operands_of q b n in
     let found = row_found _ _ _ q.maps _ _ _ cs.operands _ _ _ c.row_has-asked.ensures in

@@ -5,7 +5,7 @@ use mathlib.Core.Bool.{Bool}
 use mathlib.Core.List.{List, [], ◌∷◌}
 use mathlib.Core.Option.{some as just}
 use mathlib.Core.Path.{◌≡◌, refl, sym, ◌∙◌, ap, subst}
-use lib.ListN.{length, get_elem?, take, drop, set, length-set}
+use lib.ListN.{length, get_elem?, take, drop, set}
 use lib.Seq.{drop-set-lt}
 use Rattle.grammar.specs.Lists.{any_pass}
 use Rattle.grammar.specs.Content.{Content, type}
@@ -66,50 +66,26 @@ is-there : {kept : List ℕ} {ds : List Content} {n v : ℕ} {b : Bool} → Type
     → any_pass (same_content (type v)) ds ≡ b
 is-there {ds = ds} s e h m = sym (s.there _ h ∙ ap (λ (k : ℕ). any_pass (same_content (type k)) ds) e) ∙ m
 
-pub has-requires : goal.has-requires
-has-requires c = omega arith
-
 pub returns-then-has : goal.returns-then-has
 returns-then-has c =
     λ q s.
-    let same = gather_old q.kept.list q.kept.row.apart (type c.args.res) (is-there s.types c.wide-number.ensures.value c.wide-number.ensures.small (sym c.has.ensures ∙ c.if-has.true)) in
+    let same = gather_old q.kept.list q.kept.row.apart (type c.args.res) (is-there s.types c.from-number.ensures (omega arith) (sym c.has.ensures ∙ c.if-has.true)) in
     record {
       gathers = nothing_new _ _ _ _ _ _ _ q.kept (type c.args.res ∷ []) refl q.fits same;
       noted = λ u. subst (Registered c.args.register.now) (sym same) s;
     }
-
-pub put-requires : goal.put-requires
-put-requires c = omega arith
-
-pub bounds-draft-end : goal.bounds-draft-end
-bounds-draft-end c = omega arith
-
-pub bounds-draft-end-2 : goal.bounds-draft-end-2
-bounds-draft-end-2 c = simp length-set (omega arith)
-
-pub overflow_add-print : goal.overflow_add-print
-overflow_add-print c = omega arith
-
-pub slice_bounds-keep-count : goal.slice_bounds-keep-count
-slice_bounds-keep-count c = omega arith
-
-pub slice_bounds-keep-start : goal.slice_bounds-keep-start
-slice_bounds-keep-start c = omega arith
-
-pub slice_bounds-keep-end : goal.slice_bounds-keep-end
-slice_bounds-keep-end c = omega arith
 
 pub keep-requires : goal.keep-requires
 keep-requires c =
     let h : c.args.row.end + 1 < length c.args.draft.now = omega arith in (
       (
         newest c.args.draft.now c.args.res c.args.row h c.requires.0.kept,
-        is-there c.requires.1.types c.wide-number.ensures.value c.wide-number.ensures.small (sym c.has.ensures ∙ c.if-has.false),
-        noted-put c.requires.1 c.wide-number.ensures.small c.put.ensures,
+        is-there c.requires.1.types c.from-number.ensures (omega arith) (sym c.has.ensures ∙ c.if-has.false),
+        noted-put c.requires.1 (omega arith) c.put.ensures,
       ),
       c.requires.0.fits,
       c.requires.0.small,
-      type-print c.args.draft.now c.args.res c.args.row h _ c.wide-number.ensures.value (omega arith),
+      type-print c.args.draft.now c.args.res c.args.row h _ c.from-number.ensures (omega arith),
     )
 
 pub returns : goal.returns
@@ -120,14 +96,14 @@ returns c =
     let h : c.args.row.end + 1 < length c.args.draft.now = omega arith in
     let g =
     c.keep.ensures (newest c.args.draft.now c.args.res c.args.row h q.kept)
-    (is-there s.types c.wide-number.ensures.value c.wide-number.ensures.small (sym c.has.ensures ∙ c.if-has.false))
-    (noted-put s c.wide-number.ensures.small c.put.ensures) in
+    (is-there s.types c.from-number.ensures (omega arith) (sym c.has.ensures ∙ c.if-has.false))
+    (noted-put s (omega arith) c.put.ensures) in
     record {
       gathers =
           gathers_from _ _ _ _ _ _ _ (gathered q.kept.list (type c.args.res ∷ [])) _ (headed_before c.args.draft.now c.args.row.end 2 c.args.res h)
           g.gathers;
       noted =
           λ u.
-          registered_part (types_put s.types c.args.res (omega arith) (c.put.ensures ∙ ap (put_at c.args.register.now 0) c.wide-number.ensures.value)) c.keep.auto.notes
+          registered_part (types_put s.types c.args.res (omega arith) (c.put.ensures ∙ ap (put_at c.args.register.now 0) c.from-number.ensures)) c.keep.auto.notes
           (g.noted u);
     }

@@ -13,7 +13,7 @@ returns-then-has c =
     let p = c.args.p in (
       λ old add u x is.
           label_if_left u p _ _ c.if-has.true (c.has.ensures ∙ ap (λ (f : ℕ → Bool). f p) is)
-          (c.from.ensures ∙ label_at x p c.requires.2),
+          (c.from.ensures ∙ label_at x p c.requires.1),
       search rules,
     )
 

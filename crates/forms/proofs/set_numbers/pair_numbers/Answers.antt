@@ -16,7 +16,7 @@ loop-p-preserved c =
       λ old add u x is.
           numbers_more c.loop-p.p c.loop-p.of _ (omega arith) _ (c.loop-p.invariant.0 old add u x is)
           (ap (λ (k : ℕ). get_or by k 0) (c.label_left.ensures.0 old add u x is)),
-      set_all c.loop-p.of c.loop-p.p _ (omega arith) (λ n. n ≤ 128) c.loop-p.invariant.1 (c.requires.2 c.label_left.result),
+      set_all c.loop-p.of c.loop-p.p _ (omega arith) (λ n. n ≤ 128) c.loop-p.invariant.1 (c.requires.1 c.label_left.result),
       length-set c.loop-p.of c.loop-p.p _ ∙ c.loop-p.invariant.2,
     )
 

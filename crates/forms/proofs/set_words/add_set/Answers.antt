@@ -1,5 +1,4 @@
 -- `add_set` meets its contract.
-use native.Mathlib.Omega.{arith}
 use mathlib.Core.List.{List}
 use mathlib.Core.Path.{subst}
 use Rattle.grammar.specs.SingleTypeForm.{TypeSet}

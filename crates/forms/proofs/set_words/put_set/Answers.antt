@@ -16,7 +16,7 @@ pub returns : goal.returns
 returns c = (
   λ sets s held counted is ascending.
       sets_put held c.args.count counted c.args.set.words (record { is = is; ascending = ascending })
-      c.requires.1.eight c.args.most (omega arith) c.requires.0 _
+      (omega arith) c.args.most (omega arith) c.requires.0 _
       c.store.ensures,
   few_put c.args.most (c.args.count + 1) (omega arith),
 )

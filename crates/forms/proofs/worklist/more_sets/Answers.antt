@@ -5,7 +5,6 @@ use mathlib.Core.List.{List}
 use mathlib.Core.Path.{ap}
 use Rattle.sets.specs.Sets.{member}
 use Rattle.union.specs.PairNumbers.{is_start}
-use Rattle.union.proofs.ViewLaws.{views_sized}
 use Rattle.forms.specs.SetForms.{label_sets}
 use Rattle.forms.proofs.SetsFound.{found_start}
 use Rattle.forms.proofs.WorklistLaws.{next_set, next_met, look_more, look_many, look_all}

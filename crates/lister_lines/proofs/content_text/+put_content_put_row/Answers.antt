@@ -20,13 +20,13 @@ pub put_row-put_byte-start-requires : goal.put_row-put_byte-start-requires
 put_row-put_byte-start-requires t c = row_byte c.requires c.if-n-eq0.false
 
 pub put_content-put_byte-last-requires : goal.put_content-put_byte-last-requires
-put_content-put_byte-last-requires t c = none_room c.requires (sym c.wide-operator.ensures.value ∙ c.in-0.is)
+put_content-put_byte-last-requires t c = none_room c.requires (sym c.from-operator.ensures ∙ c.in-0.is)
 
 pub put_row-put_content-one-requires : goal.put_row-put_content-one-requires
 put_row-put_content-one-requires t c = (omega arith, first_asks c.requires c.if-n-eq0.false c.put_byte-start.ensures)
 
 pub put_content-put_bytes-last-requires : goal.put_content-put_bytes-last-requires
-put_content-put_bytes-last-requires t c = empty_room c.requires (sym c.wide-operator.ensures.value ∙ c.in-1.is)
+put_content-put_bytes-last-requires t c = empty_room c.requires (sym c.from-operator.ensures ∙ c.in-1.is)
 
 pub put_row-put_row-requires : goal.put_row-put_row-requires
 put_row-put_row-requires t c =
@@ -39,34 +39,14 @@ put_content-overflow_add-result t c =
     let i = content_inside large _ _ c.requires.there in
     omega arith
 
-pub put_content-overflow_add-result-in-1 : goal.put_content-overflow_add-result-in-1
-put_content-overflow_add-result-in-1 t c =
-    let i = content_inside large _ _ c.requires.there in
-    omega arith
-
-pub put_content-overflow_add-at : goal.put_content-overflow_add-at
-put_content-overflow_add-at t c =
-    let i = content_inside large _ _ c.requires.there in
-    omega arith
-
 pub put_row-returns : goal.put_row-returns
 put_row-returns t c = λ q. row_done q c.if-n-eq0.false c.put_byte-start.ensures c.put_content-one.ensures c.put_row.ensures
 
 pub put_content-bounds-content-at-in-2 : goal.put_content-bounds-content-at-in-2
-put_content-bounds-content-at-in-2 t c = (type_there large _ _ c.requires.there (sym c.wide-operator.ensures.value ∙ c.in-2.is)).0
+put_content-bounds-content-at-in-2 t c = (type_there large _ _ c.requires.there (sym c.from-operator.ensures ∙ c.in-2.is)).0
 
 pub put_content-put_type-last-requires : goal.put_content-put_type-last-requires
-put_content-put_type-last-requires t c = type_room c.requires (sym c.wide-operator.ensures.value ∙ c.in-2.is) _ c.wide.ensures.value
-
-pub put_content-overflow_add-result-in-2 : goal.put_content-overflow_add-result-in-2
-put_content-overflow_add-result-in-2 t c =
-    let i = type_there large _ _ c.requires.there (sym c.wide-operator.ensures.value ∙ c.in-2.is) in
-    omega arith
-
-pub put_content-overflow_add-at-in-3-to-4 : goal.put_content-overflow_add-at-in-3-to-4
-put_content-overflow_add-at-in-3-to-4 t c =
-    let i = content_inside large _ _ c.requires.there in
-    omega arith
+put_content-put_type-last-requires t c = type_room c.requires (sym c.from-operator.ensures ∙ c.in-2.is) _ c.from.ensures
 
 pub put_content-bounds-content-at-in-3-to-4 : goal.put_content-bounds-content-at-in-3-to-4
 put_content-bounds-content-at-in-3-to-4 t c =
@@ -74,67 +54,52 @@ put_content-bounds-content-at-in-3-to-4 t c =
     let high : get_or c.args.content.now c.args.at 0 ≤ 4 = omega arith in
     count_there large _ _ c.requires.there low high
 
-pub put_content-mark_of-mark-requires : goal.put_content-mark_of-mark-requires
-put_content-mark_of-mark-requires t c = omega arith
-
-pub put_content-overflow_add-at-in-3-to-4-2 : goal.put_content-overflow_add-at-in-3-to-4-2
-put_content-overflow_add-at-in-3-to-4-2 t c =
-    let low : 3 ≤ get_or c.args.content.now c.args.at 0 = omega arith in
-    let high : get_or c.args.content.now c.args.at 0 ≤ 4 = omega arith in
-    let i = count_there large _ _ c.requires.there low high in
-    omega arith
-
 pub put_content-put_row-row-requires : goal.put_content-put_row-row-requires
 put_content-put_row-row-requires t c =
     let low : 3 ≤ get_or c.args.content.now c.args.at 0 = omega arith in
     let high : get_or c.args.content.now c.args.at 0 ≤ 4 = omega arith in
     let i = count_there large _ _ c.requires.there low high in
-    (omega arith, list_asks c.requires low high _ c.wide-n.ensures.value _ (c.mark_of-mark.ensures ∙ ap mark_of c.wide-operator.ensures.value))
+    (omega arith, list_asks c.requires low high _ c.from-n.ensures _ (c.mark_of-mark.ensures ∙ ap mark_of c.from-operator.ensures))
 
 pub put_content-marked-requires : goal.put_content-marked-requires
 put_content-marked-requires t c =
     let low : 3 ≤ get_or c.args.content.now c.args.at 0 = omega arith in
     let high : get_or c.args.content.now c.args.at 0 ≤ 4 = omega arith in
-    list_mark c.requires low high _ c.wide-n.ensures.value _ (c.mark_of-mark.ensures ∙ ap mark_of c.wide-operator.ensures.value) c.put_row-row.ensures
+    list_mark c.requires low high _ c.from-n.ensures _ (c.mark_of-mark.ensures ∙ ap mark_of c.from-operator.ensures) c.put_row-row.ensures
 
 pub put_content-mark_of-mark-requires-in_default : goal.put_content-mark_of-mark-requires-in_default
 put_content-mark_of-mark-requires-in_default t c =
     let i = (content_inside large _ _ c.requires.there).1 in
     omega arith
 
-pub put_content-overflow_add-at-in_default : goal.put_content-overflow_add-at-in_default
-put_content-overflow_add-at-in_default t c =
-    let i = content_inside large _ _ c.requires.there in
-    omega arith
-
 pub put_content-put_content-operand-requires : goal.put_content-put_content-operand-requires
 put_content-put_content-operand-requires t c =
     let low : 5 ≤ get_or c.args.content.now c.args.at 0 = omega arith in
     let i = (content_inside large _ _ c.requires.there).0 in
-    (omega arith, operand_asks c.requires low _ (c.mark_of-mark-in_default.ensures ∙ ap mark_of c.wide-operator.ensures.value))
+    (omega arith, operand_asks c.requires low _ (c.mark_of-mark-in_default.ensures ∙ ap mark_of c.from-operator.ensures))
 
 pub put_content-marked-requires-in_default : goal.put_content-marked-requires-in_default
 put_content-marked-requires-in_default t c =
     let low : 5 ≤ get_or c.args.content.now c.args.at 0 = omega arith in
-    operand_mark c.requires low _ (c.mark_of-mark-in_default.ensures ∙ ap mark_of c.wide-operator.ensures.value) c.put_content-operand.ensures
+    operand_mark c.requires low _ (c.mark_of-mark-in_default.ensures ∙ ap mark_of c.from-operator.ensures) c.put_content-operand.ensures
 
 pub put_content-returns-in-0 : goal.put_content-returns-in-0
-put_content-returns-in-0 t c = λ q. none_done q (sym c.wide-operator.ensures.value ∙ c.in-0.is) c.put_byte-last.ensures
+put_content-returns-in-0 t c = λ q. none_done q (sym c.from-operator.ensures ∙ c.in-0.is) c.put_byte-last.ensures
 
 pub put_content-returns-in-1 : goal.put_content-returns-in-1
-put_content-returns-in-1 t c = λ q. empty_done q (sym c.wide-operator.ensures.value ∙ c.in-1.is) c.put_bytes-last.ensures
+put_content-returns-in-1 t c = λ q. empty_done q (sym c.from-operator.ensures ∙ c.in-1.is) c.put_bytes-last.ensures
 
 pub put_content-returns-in-2 : goal.put_content-returns-in-2
 put_content-returns-in-2 t c =
-    λ q. type_done q (sym c.wide-operator.ensures.value ∙ c.in-2.is) _ c.wide.ensures.value c.put_type-last.ensures
+    λ q. type_done q (sym c.from-operator.ensures ∙ c.in-2.is) _ c.from.ensures c.put_type-last.ensures
 
 pub put_content-returns-in-3-to-4 : goal.put_content-returns-in-3-to-4
 put_content-returns-in-3-to-4 t c =
     let low : 3 ≤ get_or c.args.content.now c.args.at 0 = omega arith in
     let high : get_or c.args.content.now c.args.at 0 ≤ 4 = omega arith in
-    λ q. list_done q low high _ c.wide-n.ensures.value _ (c.mark_of-mark.ensures ∙ ap mark_of c.wide-operator.ensures.value) c.put_row-row.ensures c.marked.ensures
+    λ q. list_done q low high _ c.from-n.ensures _ (c.mark_of-mark.ensures ∙ ap mark_of c.from-operator.ensures) c.put_row-row.ensures c.marked.ensures
 
 pub put_content-returns-in_default : goal.put_content-returns-in_default
 put_content-returns-in_default t c =
     let low : 5 ≤ get_or c.args.content.now c.args.at 0 = omega arith in
-    λ q. suffix_done q low _ (c.mark_of-mark-in_default.ensures ∙ ap mark_of c.wide-operator.ensures.value) c.put_content-operand.ensures c.marked-in_default.ensures
+    λ q. suffix_done q low _ (c.mark_of-mark-in_default.ensures ∙ ap mark_of c.from-operator.ensures) c.put_content-operand.ensures c.marked-in_default.ensures

@@ -4,12 +4,6 @@ use Rattle.grammar.specs.Listing.{local_text}
 use Rattle.writer.proofs.PutLaws.{put_join}
 use Rattle.lister_lines.proofs.lines.list_table.Goals as goal
 
-pub put_starts-rules-requires : goal.put_starts-rules-requires
-put_starts-rules-requires c = (c.requires.0, omega arith)
-
-pub put_rules-requires : goal.put_rules-requires
-put_rules-requires c = (c.requires.0, omega arith)
-
 pub returns : goal.returns
 unfolding local_text
 returns c =

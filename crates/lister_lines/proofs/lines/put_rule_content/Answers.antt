@@ -3,12 +3,6 @@ use native.Mathlib.Omega.{arith}
 use Rattle.lister_lines.proofs.LineLaws.{content_stands, content_asks, content_put, content_size}
 use Rattle.lister_lines.proofs.lines.put_rule_content.Goals as goal
 
-pub content_from-from-requires : goal.content_from-from-requires
-content_from-from-requires c = omega arith
-
-pub content_to-to-requires : goal.content_to-to-requires
-content_to-to-requires c = omega arith
-
 pub slice_bounds-put_content-count : goal.slice_bounds-put_content-count
 slice_bounds-put_content-count c =
     let w = (content_stands c.requires.0 _ c.requires.1 c.content_from-from.ensures c.content_to-to.ensures).inside.order in

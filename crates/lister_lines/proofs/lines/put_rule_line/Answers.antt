@@ -7,9 +7,6 @@ use Rattle.writer.proofs.PutLaws.{put_join}
 use Rattle.lister_lines.proofs.LineLaws.{rule_type_is, rule_type_size, rule_label_is, line_joined}
 use Rattle.lister_lines.proofs.lines.put_rule_line.Goals as goal
 
-pub rule_type-requires : goal.rule_type-requires
-rule_type-requires c = omega arith
-
 pub put_type-typed-requires : goal.put_type-typed-requires
 put_type-typed-requires c =
     let n = rule_type_size c.requires.0 _ c.requires.1 c.rule_type.ensures in
@@ -19,9 +16,6 @@ pub put_byte-name-requires : goal.put_byte-name-requires
 put_byte-name-requires c =
     let n = rule_type_size c.requires.0 _ c.requires.1 c.rule_type.ensures in
     omega arith
-
-pub rule_label-requires : goal.rule_label-requires
-rule_label-requires c = omega arith
 
 pub put_name-named-requires : goal.put_name-named-requires
 put_name-named-requires c =

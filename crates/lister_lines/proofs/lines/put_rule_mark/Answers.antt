@@ -6,12 +6,6 @@ use Rattle.writer.proofs.PutLaws.{put_none}
 use Rattle.lister_lines.proofs.LineLaws.{rule_mark_is, marked, unmarked}
 use Rattle.lister_lines.proofs.lines.put_rule_mark.Goals as goal
 
-pub for_text-requires : goal.for_text-requires
-for_text-requires c = (record { table = c.requires.0.table; indexes = c.requires.0.held.indexes }, c.requires.1)
-
-pub put_byte-requires : goal.put_byte-requires
-put_byte-requires c = omega (arith, c.requires.2)
-
 pub returns-then-for_text : goal.returns-then-for_text
 returns-then-for_text c =
     let put = c.put_byte in

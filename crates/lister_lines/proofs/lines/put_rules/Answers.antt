@@ -1,9 +1,7 @@
 -- `put_rules` meets its contract. The loop's invariant: the lines of the rules before `i` are written.
 use native.Mathlib.Omega.{arith}
-use mathlib.Core.Path.{refl, ap}
-use lib.Seq.{take_all}
+use mathlib.Core.Path.{refl}
 use Rattle.grammar.specs.Lists.{joined_of}
-use Rattle.grammar.specs.Listing.{rule_line}
 use Rattle.writer.proofs.PutLaws.{put_join, put_none}
 use Rattle.lister_lines.proofs.PrintSteps.{put_as}
 use Rattle.lister_lines.proofs.LineLaws.{lines_next}
@@ -19,13 +17,3 @@ loop-i-preserved c = (
   omega arith,
   λ f. put_as (lines_next f c.loop-i.i (omega arith)) (put_join (c.loop-i.invariant.2 f) (c.put_rule_line-end.ensures.put f)),
 )
-
-pub returns : goal.returns
-returns c =
-    record {
-      put =
-          λ f.
-          let n = f.held.indexes.rules in
-          put_as (ap (joined_of (rule_line f.table)) (take_all c.loop-i.i f.table.rules (omega arith))) (c.loop-i.invariant.2 f);
-      short = omega arith;
-    }

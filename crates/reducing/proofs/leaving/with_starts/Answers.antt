@@ -1,6 +1,7 @@
 -- `with_starts` meets its contract. The loop's invariant: the lists of the start types before `i` are in the set.
 use Rattle.reader.specs.declared.index.TableIndex.{TableIndex}
 use Prim.Native.Nat.{ℕ}
+use native.Mathlib.Omega.{arith}
 use mathlib.Core.List.{List}
 use mathlib.Core.Path.{sym, ◌∙◌, ap}
 use Rattle.grammar.specs.Lists.{is_in, joined_of, numbers_below}
@@ -18,7 +19,7 @@ list_at lists index i = list_of_type lists.from lists.numbers (start_type index 
 pub loop-i-init : goal.loop-i-init
 loop-i-init c = (
   both_start (member c.args.set.words 0) _ (joined_start (list_at c.args.lists c.args.index.now)),
-  c.requires.0,
+  omega arith,
 )
 
 pub loop-i-preserved : goal.loop-i-preserved

@@ -10,7 +10,7 @@ use Rattle.reducing.proofs.MeetingLaws.{part_next}
 use Rattle.reducing.proofs.meeting.with_part.Goals as goal
 
 pub loop-number-init : goal.loop-number-init
-loop-number-init c = (both_start (member c.args.set.words 0) [] refl, c.requires.0)
+loop-number-init c = (both_start (member c.args.set.words 0) [] refl, omega arith)
 
 pub loop-number-preserved : goal.loop-number-preserved
 loop-number-preserved c =

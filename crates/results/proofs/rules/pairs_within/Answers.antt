@@ -1,5 +1,6 @@
 -- `pairs_within` meets its contract.
 use Prim.Native.Nat.{ℕ}
+use native.Mathlib.Omega.{arith}
 use mathlib.Core.Bool.{Bool}
 use mathlib.Core.Path.{sym, ◌∙◌, ap}
 use Rattle.grammar.specs.Lists.{is_in}
@@ -13,7 +14,7 @@ pub returns-in-Local : goal.returns-in-Local
 unfolding kind_of
 returns-in-Local c = (
   λ u s x l y z. y ∙ sym (ap (λ (k : Kind). pairs_within (kind_of k) u s) c.in-Local.is),
-  c.requires.1,
+  omega arith,
 )
 
 pub returns-in-SingleType : goal.returns-in-SingleType

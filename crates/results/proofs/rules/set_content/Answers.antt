@@ -23,7 +23,7 @@ content_of_set-requires c =
     let listed =
     c.result_lists-lists.ensures _ _ s.table s.sets within s.views q.lists_are left s.labelled
     (all_labels q (λ l. place same_numbers (pairs_labelled s.table within l) s.sets) c.label_numbers-numbers.result.of numbers) in
-    (merged q within c.types_listed-types.result c.result_lists-lists.result listed c.types_listed-types.ensures.1 c.types_listed-types.ensures.0, c.requires.0)
+    (merged q within c.types_listed-types.result c.result_lists-lists.result listed c.types_listed-types.ensures.0, c.requires.0)
 
 pub returns : goal.returns
 returns c =
@@ -41,6 +41,6 @@ returns c =
     let same =
     content_is s.table s.sets kind i (member c.args.set.words 0) within held
     (c.pairs_within-within.ensures.0 s.table _ s.views q.lists_are left held) in
-    let from = merged q within c.types_listed-types.result c.result_lists-lists.result listed c.types_listed-types.ensures.1 c.types_listed-types.ensures.0 in
+    let from = merged q within c.types_listed-types.result c.result_lists-lists.result listed c.types_listed-types.ensures.0 in
     subst (λ (d : Content). Made c.content_of_set.new.draft d c.content_of_set.result) same
     (c.content_of_set.ensures from (subst Regular (sym same) (q.regular i c.requires.1)))

@@ -9,9 +9,7 @@ use Rattle.grammar.specs.Limits.{large}
 use Rattle.grammar.specs.Kinds.{local}
 use Rattle.grammar.specs.Unite.{unite}
 use Rattle.sets.specs.Sets.{member}
-use Rattle.sets.proofs.SetLaws.{length-words}
-use Rattle.union.specs.Places.{sets_end, left_at}
-use Rattle.union.proofs.ViewLaws.{views_sized}
+use Rattle.union.specs.Places.{sets_end}
 use Rattle.forms.specs.SetForms.{local_sets, sets_of}
 use Rattle.steps.proofs.ReducedLaws as laws
 use Rattle.steps.proofs.widen.local_types.Goals as goal
@@ -19,11 +17,10 @@ use Rattle.steps.proofs.widen.local_types.Goals as goal
 pub label_sets-requires : goal.label_sets-requires
 label_sets-requires c = (
   c.args.limits.rules_fit,
-  views_sized c.requires.0.5.reduced.seen.rules,
+  c.requires.0.5.reduced.seen.rules.few,
   record {
     few = omega arith;
     room = laws.lent_room c.args.words.now c.requires.1;
-    eight = ap length c.load-left.ensures ∙ length-words _ left_at 8 (omega arith);
   },
 )
 
@@ -40,12 +37,11 @@ label_numbers-numbers-requires c =
     let h = held.few in
     let same : length front ≡ length (take sets_end c.args.words.now) = search rules in
     let all = laws.room_stays c.args.words.now room front same in (
-      views_sized r.seen.rules,
+      r.seen.rules.few,
       omega arith,
       record {
         few = omega arith;
         room = omega arith;
-        eight = ap length c.load-left.ensures ∙ length-words _ left_at 8 (omega arith);
       },
     )
 
@@ -53,7 +49,7 @@ pub start_numbers-requires : goal.start_numbers-requires
 start_numbers-requires c =
     let front = c.label_sets.new.words in
     let same : length front ≡ length (take sets_end c.args.words.now) = search rules in (
-      views_sized c.requires.0.5.reduced.seen.rules,
+      c.requires.0.5.reduced.seen.rules.few,
       laws.room_stays c.args.words.now c.requires.1 front same,
       c.label_numbers-numbers.ensures.1,
     )

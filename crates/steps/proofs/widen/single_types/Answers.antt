@@ -8,9 +8,7 @@ use borrow.Author.Rules.{rules}
 use Rattle.grammar.specs.Kinds.{single_type}
 use Rattle.grammar.specs.LimitSets.{limits_of}
 use Rattle.sets.specs.Sets.{member}
-use Rattle.sets.proofs.SetLaws.{length-words}
-use Rattle.union.specs.Places.{sets_end, starts_at}
-use Rattle.union.proofs.ViewLaws.{views_sized}
+use Rattle.union.specs.Places.{sets_end}
 use Rattle.steps.proofs.ReducedLaws as laws
 use Rattle.steps.proofs.UnionLaws.{seen_viewed, listed_both}
 use Rattle.steps.proofs.widen.single_types.Goals as goal
@@ -18,11 +16,10 @@ use Rattle.steps.proofs.widen.single_types.Goals as goal
 pub label_sets-requires : goal.label_sets-requires
 label_sets-requires c = (
   c.args.limits.rules_fit,
-  views_sized c.requires.0.2.reduced.seen.rules,
+  c.requires.0.2.reduced.seen.rules.few,
   record {
     few = omega arith;
     room = laws.lent_room c.args.words.now c.requires.1;
-    eight = ap length c.load-starts.ensures ∙ length-words _ starts_at 8 (omega arith);
   },
 )
 

@@ -1,7 +1,6 @@
 -- `widen_tables` meets its contract: the union is reduced, no document is derived, or the result is drafted.
 use Rattle.theory.proofs.Tables.RoomierLimits.{within_large}
 use Rattle.reader.proofs.TableFoundLaws.{held_roomier, some_roomier}
-use Rattle.union.proofs.ViewLaws.{views_sized}
 use Rattle.reducing.proofs.LeavingLaws.{starts_small}
 use Rattle.steps.specs.Widened.{Widens}
 use Rattle.steps.proofs.UnionLaws as laws
@@ -24,7 +23,7 @@ fruitful_lists-lists-requires c =
     let (p, q, words, draft) = c.requires in
     let big = within_large c.args.limits in
     let seen = c.unite_tables-union.ensures p.table q.table (held_roomier big p.held) (held_roomier big q.held) in
-    (views_sized seen.rules, search rules)
+    (seen.rules.few, search rules)
 
 pub start_pairs-requires : goal.start_pairs-requires
 start_pairs-requires c =

@@ -11,7 +11,7 @@ use Rattle.union.proofs.PutsLaws.{puts_start, puts_step}
 use Rattle.union.proofs.fruitful.round.Goals as goal
 
 pub loop-i-init : goal.loop-i-init
-loop-i-init c = (λ u x. puts_start _ _ _ _ refl, c.requires.1)
+loop-i-init c = (λ u x. puts_start _ _ _ _ refl, omega arith)
 
 pub loop-i-preserved : goal.loop-i-preserved
 loop-i-preserved c = (

@@ -17,7 +17,7 @@ append-more-requires c =
     let small : i ≤ n = omega (arith, c.requires.1.order, c.requires.1.inside) in
     adds_once 256 _ _ c.requires.0 _ _ _
     (λ p m.
-    part_below c.args.numbers.now 256 c.requires.1.below c.args.first i p
+    part_below c.args.numbers.now 256 (λ j. omega (arith, c.type_inv.numbers j)) c.args.first i p
     (subst (λ (l : List ℕ). Memᴰ p l) (take-take i n numbers small) m))
     c.loop-number.invariant
     c.loop-number.auto.list
