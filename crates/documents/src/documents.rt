@@ -49,7 +49,9 @@ pub struct DocumentIndex {
 
 impl DocumentIndex {
     // No nodes.
-    pub fn new() -> Self {
+    pub fn new() -> Self
+        ensures { result.nodes ≡ 0 }
+    {
         Self {
             names: [0; 2048],
             sizes: [0; 2048],
