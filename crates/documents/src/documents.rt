@@ -39,7 +39,7 @@ struct NodeField {
 
 // The nodes of a document in file order: where each name stands, and the shape of each: how many children it has, and 256 more if it
 // holds text.
-#[derive(Drop)]
+#[derive(Clone, Copy)]
 pub struct DocumentIndex {
     pub names: [u16; 2048],
     pub sizes: [u16; 2048],

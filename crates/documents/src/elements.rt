@@ -99,7 +99,7 @@ fn text_end(nodes: usize, depth: usize) -> Result<(), Refusal>
     Ok(())
 }
 
-// The tags of a text, front to back. It begins with no nodes.
+// The tags of a text, front to back. Whatever nodes the index had are gone.
 pub fn read_tags(
     limits: SizeLimits,
     classes: &[u8],
@@ -108,9 +108,9 @@ pub fn read_tags(
 ) -> Result<(), Refusal>
     requires in_bounds { 256 ≤ length classes.now }
     requires s_len_bound { length s.now ≤ input_limit }
-    requires no_nodes { index.old.nodes ≡ 0 }
     ensures { DocumentReads (limits_of limits) classes.now XmlText s.now index.new result }
 {
+    index.nodes = 0;
     let mut at = 0;
     let mut places = [0u16; 64];
     let mut depth = 0;

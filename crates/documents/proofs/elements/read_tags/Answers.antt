@@ -18,7 +18,7 @@ bool_small true = omega arith
 pub loop-tag-init : goal.loop-tag-init
 loop-tag-init c =
     let room = c.args.limits.nodes_fit in
-    (text_begins refl room _ c.requires.no_nodes (omega arith) (omega arith) (omega arith), refl)
+    (text_begins refl room _ refl (omega arith) (omega arith) (omega arith), refl)
 
 pub tag_at-requires : goal.tag_at-requires
 tag_at-requires c = c.loop-tag.invariant.0.reached
