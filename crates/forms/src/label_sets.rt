@@ -26,9 +26,10 @@ pub fn labelled_pairs(v: United, pairs: Set8, label: usize) -> Set8
     ensures { ((old add : List ℕ) (u : Table) → Views old add v u
         → member result.words 0 ≡ (λ p. is_in p (pairs_labelled u (member pairs.words 0) label))) × (length result.words ≡ 8) }
 {
+    let labels = v.labels;
     let mut set = Set8::empty();
     for p in 0..v.rules {
-        let own = usize::from(v.labels[p]);
+        let own = usize::from(labels[p]);
         if pairs.has(p) && own == label {
             set = set.with(p);
         }
@@ -42,9 +43,10 @@ pub fn set_label(v: United, set: Set8) -> usize
     ensures { (old add : List ℕ) (u : Table) (s : TypeSet) → Views old add v u → member set.words 0 ≡ (λ p. is_in p s)
         → Ascending s → is_empty s ≡ false → result ≡ set_label u s }
 {
+    let labels = v.labels;
     for p in 0..v.rules {
         if set.has(p) {
-            return usize::from(v.labels[p]);
+            return usize::from(labels[p]);
         }
     }
     0

@@ -26,7 +26,8 @@ fn label_left(v: United, left: Set8, p: usize) -> usize
         × (result < 256) }
 {
     if left.has(p) {
-        return usize::from(v.labels[p]);
+        let labels = v.labels;
+        return usize::from(labels[p]);
     }
     0
 }

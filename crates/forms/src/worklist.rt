@@ -29,10 +29,12 @@ fn add_met(most: usize, v: United, found: Met, words: &mut [u32], count: usize) 
         → SetsCounted most words.new (distinct same_numbers (sets ++ sets_within u s)) result) × (Few most result) }
 {
     let all = set_of(found);
+    let numbers = found.numbers;
+    let labels = v.labels;
     let mut total = count;
     for i in 0..found.count {
-        let p = usize::from(found.numbers[i]);
-        let set = labelled_pairs(v, all, usize::from(v.labels[p]));
+        let p = usize::from(numbers[i]);
+        let set = labelled_pairs(v, all, usize::from(labels[p]));
         total = add_set(most, words, total, set)?;
     }
     Some(total)

@@ -54,8 +54,10 @@ fn met_in_rule(
     ensures { Meets old.now add.now v lists (λ u. met_in_rule u i) (take count list.old)
         list.new result }
 {
-    let from = usize::from(v.content_from[i]);
-    let to = usize::from(v.content_to[i]);
+    let content_from = v.content_from;
+    let content_to = v.content_to;
+    let from = usize::from(content_from[i]);
+    let to = usize::from(content_to[i]);
     if i < v.old_rules {
         return met_in_content(&old[from..to], lists.old, list, count);
     }
@@ -76,9 +78,10 @@ fn met_in_pair(
     ensures { Meets old.now add.now v lists (λ u. met_in_pair u p) (take count list.old)
         list.new result }
 {
+    let firsts = v.firsts;
     let mut more = count;
     for i in 0..v.rules {
-        if usize::from(v.firsts[i]) == p {
+        if usize::from(firsts[i]) == p {
             more = met_in_rule(old, add, v, lists, i, list, more);
         }
     }

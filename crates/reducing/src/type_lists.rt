@@ -23,7 +23,9 @@ fn is_pair(v: United, known: Set8, ty: usize, p: usize) -> bool
     requires { p < 256 }
     ensures { result ≡ is_pair v (member known.words 0) ty p }
 {
-    usize::from(v.types[p]) == ty && usize::from(v.firsts[p]) == p && known.has(p)
+    let types = v.types;
+    let firsts = v.firsts;
+    usize::from(types[p]) == ty && usize::from(firsts[p]) == p && known.has(p)
 }
 
 // Lays a pair's number down after the others, if it is a known pair of the type.
@@ -92,9 +94,11 @@ fn is_listed(lists: TypeLists, k: usize) -> bool
     ensures { (of : ℕ → List ℕ) → ListsOf of lists → result ≡ some_left of k }
 {
     if k < 128 {
-        return lists.old.from[k] < lists.old.from[k + 1];
+        let from = lists.old.from;
+        return from[k] < from[k + 1];
     }
-    lists.addition.from[k - 128] < lists.addition.from[k - 127]
+    let from = lists.addition.from;
+    from[k - 128] < from[k - 127]
 }
 
 // The types of the union that have a list that is not empty.

@@ -31,10 +31,11 @@ pub fn text_pairs(old: &[u8], add: &[u8], v: United, lists: TypeLists) -> Set8
         → member result.words 0 ≡ is_text u) × (length result.words ≡ 8) }
 {
     let types = types_listed(lists);
+    let firsts = v.firsts;
     let mut set = Set8::empty();
     for i in 0..v.rules {
         if rule_marks(old, add, v, i, types) {
-            set = set.with(usize::from(v.firsts[i]));
+            set = set.with(usize::from(firsts[i]));
         }
     }
     set

@@ -2,7 +2,6 @@
 --   seen_viewed, listed_both   what the steps ask
 --   none_started               where no start pair is fruitful, no document is derived
 --   reduced                    where there is one, what is known for the result
---   for_kind                   the answer for the kind that is meant
 use Rattle.reader.specs.declared.index.TableIndex.{TableIndex}
 use Prim.Native.Nat.{ℕ}
 use native.Mathlib.Omega.{arith}

@@ -18,10 +18,11 @@ pub fn start_numbers(v: United, numbers: Numbers, words: &mut [u32])
         × KeptAround start_types_at 8 words.old words.new }
 {
     let starts = Set8::load(words, STARTS);
+    let labels = v.labels;
     let mut set = Set8::empty();
     for p in 0..v.rules {
         if starts.has(p) {
-            let label = usize::from(v.labels[p]);
+            let label = usize::from(labels[p]);
             set = set.with(usize::from(numbers.of[label]));
         }
     }

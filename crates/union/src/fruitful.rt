@@ -21,8 +21,10 @@ pub fn rule_has(old: &[u8], add: &[u8], v: United, i: usize, types: Set8) -> boo
     ensures { (u : Table) → Views old.now add.now v u
         → result ≡ has_alts (member types.words 0) (content_of_rule u i) }
 {
-    let from = usize::from(v.content_from[i]);
-    let to = usize::from(v.content_to[i]);
+    let content_from = v.content_from;
+    let content_to = v.content_to;
+    let from = usize::from(content_from[i]);
+    let to = usize::from(content_to[i]);
     if i < v.old_rules {
         return content_has(&old[from..to], 0, &types.words, 0).has;
     }
@@ -45,10 +47,12 @@ fn types_with(v: United, known: Set8) -> Set8
     requires { v.rules ≤ 256 }
     ensures { (member result.words 0 ≡ types_with v (member known.words 0)) × (length result.words ≡ 8) }
 {
+    let firsts = v.firsts;
+    let types = v.types;
     let mut set = Set8::empty();
     for i in 0..v.rules {
-        let first = usize::from(v.firsts[i]);
-        set = put_if(known.has(first), set, usize::from(v.types[i]));
+        let first = usize::from(firsts[i]);
+        set = put_if(known.has(first), set, usize::from(types[i]));
     }
     set
 }
@@ -60,12 +64,13 @@ fn round(old: &[u8], add: &[u8], v: United, known: Set8) -> Set8
         → member result.words 0 ≡ after_round u v (member known.words 0)) × (length result.words ≡ 8) }
 {
     let types = types_with(v, known);
+    let firsts = v.firsts;
     let mut next = known;
     for i in 0..v.rules {
         next = put_if(
             rule_has(old, add, v, i, types),
             next,
-            usize::from(v.firsts[i]),
+            usize::from(firsts[i]),
         );
     }
     next

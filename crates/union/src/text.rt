@@ -11,7 +11,8 @@ pub fn rule_text(old: &[u8], add: &[u8], v: United, i: usize) -> bool
     requires { (Viewed old.now add.now v) × (i < v.rules) }
     ensures { (u : Table) → Views old.now add.now v u → result ≡ (rule_numbered u i).text }
 {
-    let from = usize::from(v.content_from[i]);
+    let content_from = v.content_from;
+    let from = usize::from(content_from[i]);
     if i < v.old_rules {
         return old[from - 5] == TEXT_RULE_TAG;
     }

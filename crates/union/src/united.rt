@@ -14,7 +14,8 @@ use reader::index::TableIndex;
 
 // Old rules come first. A type of the addition counts from 128 on. `firsts` has the number of the first rule of each rule's pair; the
 // content of a rule stands in the bytes of its own table. It is a copy wherever it goes: it has nothing but numbers, and the contracts
-// and the steps above take it by value.
+// and the steps above take it by value. A body that looks places up in one of its arrays names the array first: an index into the struct
+// copies all of it each time.
 #[derive(Clone, Copy)]
 pub struct United {
     pub rules: usize,
@@ -40,8 +41,10 @@ fn pair_place(v: United, ty: u8, label: u8) -> usize
     ensures { ((old add : List ℕ) (rs : List Rule) (x : Rule) → Views old add v (rules_only rs)
         → ty ≡ x.type → label ≡ x.label → result ≡ place same_pair x rs) × (result ≤ v.rules) }
 {
+    let types = v.types;
+    let labels = v.labels;
     for i in 0..v.rules {
-        if ty == v.types[i] && label == v.labels[i] {
+        if ty == types[i] && label == labels[i] {
             return i;
         }
     }

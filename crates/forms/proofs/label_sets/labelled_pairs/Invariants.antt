@@ -9,5 +9,5 @@ use Rattle.forms.proofs.label_sets.labelled_pairs.Given as goal
 
 abbrev pub invariant-loop-p : goal.invariant-loop-p
 invariant-loop-p l =
-    (member l.set.words 0 ≡ puts (λ j. member l.pairs.words 0 j && eqb (get_or l.v.labels j 0) l.label) (λ j. j) nothing l.p)
+    (member l.set.words 0 ≡ puts (λ j. member l.pairs.words 0 j && eqb (get_or l.fn.v.labels j 0) l.label) (λ j. j) nothing l.p)
     × (length l.set.words ≡ 8)

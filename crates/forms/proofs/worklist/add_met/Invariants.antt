@@ -19,5 +19,5 @@ invariant-loop-i l =
     (l.total ≤ l.most)
     × ((old add : List ℕ) (u : Table) (sets : List TypeSet) (s : TypeSet) → Views old add l.v u → SetsHeld l.initial.words sets → l.count ≡ length sets
     → distinct same_numbers sets ≡ sets
-    → take l.found.count l.found.numbers ≡ distinct eqb (met_in u (λ q. is_in q s))
+    → take l.fn.found.count l.fn.found.numbers ≡ distinct eqb (met_in u (λ q. is_in q s))
     → SetsCounted l.most l.words (distinct same_numbers (sets ++ take l.i (sets_within u s))) (Some l.total))

@@ -8,5 +8,5 @@ use Rattle.union.proofs.fruitful.types_with.Given as goal
 
 abbrev pub invariant-loop-i : goal.invariant-loop-i
 invariant-loop-i l =
-    (member l.set.words 0 ≡ puts (λ j. member l.known.words 0 (first_in l.v j)) (type_in l.v) nothing l.i)
+    (member l.set.words 0 ≡ puts (λ j. member l.known.words 0 (first_in l.fn.v j)) (type_in l.fn.v) nothing l.i)
     × (length l.set.words ≡ 8)

@@ -6,11 +6,11 @@ use mathlib.Core.Path.{ap₂}
 use Rattle.union.proofs.UnionLaws.{pair_here, pair_nowhere}
 use Rattle.union.proofs.united.pair_place.Goals as goal
 
-pub returns-then-label-v : goal.returns-then-label-v
-returns-then-label-v c = (
+pub returns-then-label-labels : goal.returns-then-label-labels
+returns-then-label-labels c = (
   λ old add rs x w p q.
       pair_here w x p q c.loop-i.i c.loop-i-test.true c.loop-i.invariant
-      (ap₂ ◌&&◌ (eq-eqb _ _ c.if-ty-v.true) (eq-eqb _ _ c.if-label-v.true)),
+      (ap₂ ◌&&◌ (eq-eqb _ _ c.if-ty-types.true) (eq-eqb _ _ c.if-label-labels.true)),
   omega arith,
 )
 
