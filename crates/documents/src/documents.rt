@@ -66,10 +66,12 @@ impl DocumentIndex {
         requires nodes_in_bounds { self.old.nodes < 2048 }
         ensures { self.new ≡ with_node_at self.old from to shape }
     {
-        self.names[self.nodes] = from as u16;
-        self.sizes[self.nodes] = (to - from) as u16;
-        self.shapes[self.nodes] = shape as u16;
-        self.nodes += 1;
+        // Read once: behind each store it would be read from memory anew.
+        let place = self.nodes;
+        self.names[place] = from as u16;
+        self.sizes[place] = (to - from) as u16;
+        self.shapes[place] = shape as u16;
+        self.nodes = place + 1;
     }
 }
 

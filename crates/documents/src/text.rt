@@ -36,9 +36,7 @@ fn ends_name(b: u8) -> bool
     is_white(b) || b == SLASH || b == GREATER_THAN
 }
 
-// The first place from here on that has no white space. It stays a function of its own where it runs, as `name_end` does: inlined into the
-// loop over the tags, its loop carried four counters for each byte.
-#[inline(never)]
+// The first place from here on that has no white space.
 fn past_white(s: &[u8], at: usize) -> usize
     requires { at ≤ length s.now }
     ensures { Forward s.now at (past_white (drop at s.now)) result }
@@ -52,7 +50,6 @@ fn past_white(s: &[u8], at: usize) -> usize
 }
 
 // Where the name that begins here ends.
-#[inline(never)]
 fn name_end(s: &[u8], from: usize) -> usize
     requires { from ≤ length s.now }
     ensures { NameEnd s.now from result }
